@@ -1,0 +1,36 @@
+#!/bin/sh
+# Checks the scripts of readings/, choices/ and differences/: NAME.answers is what the port must answer and so
+# judge --sheet and plain, NAME.rust what the Rust itself answers where that is another, NAME.sheet what the
+# sheet would say where the port does not follow it. A script's `# rust:` and `# sheet:` lines name the flag of
+# the judge and the bend of the plain counter that show those.
+set -u
+cd "$(dirname "$0")" || exit 1
+bin=target/release
+failed=0
+scripts=0
+
+# expect SCRIPT ANSWERS PROGRAM...
+expect() {
+    script=$1
+    answers=$2
+    shift 2
+    if [ "$("$@" < "$script")" != "$(cat "$answers")" ]; then
+        echo "oracle: on $script, $* does not answer $answers" >&2
+        failed=1
+    fi
+}
+
+for script in readings/*.script choices/*.script differences/*.script; do
+    name=${script%.script}
+    rust=$name.answers
+    [ -f "$name.rust" ] && rust=$name.rust
+    flag=$(sed -n 's/^# rust: //p' "$script")
+    bend=$(sed -n 's/^# sheet: //p' "$script")
+    expect "$script" "$name.answers" $bin/judge --sheet
+    expect "$script" "$name.answers" $bin/plain
+    expect "$script" "$rust" $bin/judge $flag
+    [ -n "$bend" ] && expect "$script" "$name.sheet" $bin/plain --bend "$bend"
+    scripts=$((scripts + 1))
+done
+[ $failed -eq 0 ] && echo "$scripts scripts answered as they must be"
+exit $failed

@@ -1,0 +1,67 @@
+//! Random scripts by seed. The generator runs the judge on its own lines, so that it can aim at the next
+//! event, at TOP and at the compares.
+
+mod calls;
+mod configs;
+mod cycles;
+mod others;
+mod rng;
+mod values;
+
+use crate::judge::{Follow, Judge, View};
+use crate::script::Session;
+use rng::Rng;
+
+struct Generator {
+    rng: Rng,
+    session: Session<Judge>,
+    lines: Vec<String>,
+    calls: usize,
+}
+
+impl Generator {
+    fn view(&self) -> Option<View<'_>> {
+        self.session.side.view()
+    }
+
+    /// Adds a line and lets the judge work it. `state` and configurations are not calls.
+    fn say(&mut self, line: String) {
+        self.session.answer(line.as_bytes());
+        if !["state", "config", "preset"].iter().any(|w| line.starts_with(w)) {
+            self.calls += 1;
+        }
+        self.lines.push(line);
+    }
+
+    fn line(&mut self) {
+        // Without a timer, or with one at the end of its cycles, little can be seen.
+        let worn_out = self.view().is_none_or(|v| v.latest > (1 << 62) - 200);
+        match self.rng.below(1000) {
+            0..=5 => self.configure(),
+            6..=205 if worn_out => self.configure(),
+            206..=245 => self.pin(),
+            246..=285 => self.scheduler(),
+            286..=287 => self.unreadable(),
+            _ => self.timer_move(),
+        }
+    }
+
+    fn configure(&mut self) {
+        let line = configs::line(&mut self.rng);
+        self.say(line);
+        self.say("state".into());
+    }
+}
+
+/// A script of at least so many calls, with `state` after every one on the timer.
+pub fn script(seed: u64, calls: usize) -> Vec<String> {
+    let session = Session::new(Judge::new(Follow::Sheet));
+    let mut generator = Generator { rng: Rng::new(seed), session, lines: Vec::new(), calls: 0 };
+    if generator.rng.percent(97) {
+        generator.configure();
+    }
+    while generator.calls < calls {
+        generator.line();
+    }
+    generator.lines
+}

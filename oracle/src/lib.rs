@@ -1,0 +1,7 @@
+//! The Rust as judge: one script, answered by the unchanged Rust and by a plain counter, and compared.
+
+pub mod compare;
+pub mod generate;
+pub mod judge;
+pub mod plain;
+pub mod script;

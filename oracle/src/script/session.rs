@@ -1,0 +1,90 @@
+//! A run of one script: lines in, answers out, and the area that every call is given.
+
+use std::io::{self, BufRead, Write};
+
+use super::answer::{Answer, State};
+use super::command::{Call, Command, Sched};
+use super::config::Config;
+use super::pin::PinLine;
+use super::words::Why;
+
+/// What stands in every byte of the area before each call.
+const FILL: u8 = 0xa5;
+
+/// The longest line in bytes.
+const LONGEST: usize = 500;
+
+/// One that answers a script: the judge or the plain counter.
+pub trait Side {
+    fn configure(&mut self, config: &Config) -> Answer;
+    fn call(&mut self, call: Call, cycle: u64, area: &mut [u8]) -> Answer;
+    fn state(&self) -> Option<State>;
+    fn pin(&self, pin: &PinLine) -> Answer;
+    fn sched(&mut self, sched: Sched) -> Answer;
+}
+
+pub struct Session<S> {
+    pub side: S,
+    lines: usize,
+}
+
+impl<S: Side> Session<S> {
+    pub fn new(side: S) -> Self {
+        Self { side, lines: 0 }
+    }
+
+    /// Answers the next line; nothing for one without words.
+    pub fn answer(&mut self, line: &[u8]) -> Option<String> {
+        self.lines += 1;
+        match read_line(line) {
+            Ok(None) => None,
+            Ok(Some(command)) => Some(self.run(&command)),
+            Err(why) => Some(format!("error line {}: {why}", self.lines)),
+        }
+    }
+
+    fn run(&mut self, command: &Command) -> String {
+        match command {
+            Command::Config(config) => self.side.configure(config).line(&[]),
+            Command::Call { call, cycle, area } => self.call(*call, *cycle, *area),
+            Command::State => self.side.state().map_or(Answer::NoTimer.line(&[]), |s| s.to_string()),
+            Command::Pin(pin) => self.side.pin(pin).line(&[]),
+            Command::Sched(sched) => self.side.sched(*sched).line(&[]),
+        }
+    }
+
+    fn call(&mut self, call: Call, cycle: u64, size: usize) -> String {
+        let mut area = vec![FILL; size];
+        let answer = self.side.call(call, cycle, &mut area);
+        match area.iter().skip(answer.bytes()).position(|&b| b != FILL) {
+            Some(i) => format!("area changed at {}", answer.bytes() + i),
+            None => answer.line(&area),
+        }
+    }
+}
+
+/// The command of a line, or nothing where it has no words.
+pub fn read_line(line: &[u8]) -> Result<Option<Command>, Why> {
+    if line.len() > LONGEST {
+        return Err(Why::LineTooLong);
+    }
+    let line = String::from_utf8_lossy(line);
+    let said = line.split('#').next().unwrap_or_default();
+    let words: Vec<&str> = said.split(' ').filter(|w| !w.is_empty()).collect();
+    if words.is_empty() {
+        return Ok(None);
+    }
+    Command::read(&words).map(Some)
+}
+
+/// Answers standard input on standard output.
+pub fn serve(side: impl Side) -> io::Result<()> {
+    let mut session = Session::new(side);
+    let mut out = io::BufWriter::new(io::stdout().lock());
+    for line in io::stdin().lock().split(b'\n') {
+        if let Some(answer) = session.answer(&line?) {
+            writeln!(out, "{answer}")?;
+        }
+    }
+    out.flush()
+}
