@@ -1,0 +1,21 @@
+use Rattle.config.specs.Config.{pinsOf}
+use native.Mathlib.Omega.{arith}
+use borrow.Author.Needs.{needs}
+use Rattle.config.proofs.Config.pins.Statement.{statement}
+use Rattle.config.proofs.Config.pins.Tie as tie
+
+returns : tie.Need-returns
+unfolding pinsOf
+returns c = (rw (c .pinned5 .ensures .0, c .before .pinned4 .ensures .0, c .before .before .pinned3 .ensures .0, c .before .before .before .pinned2 .ensures .0, c .before .before .before .before .pinned .ensures .0, c .before .before .before .before .before .new .ensures .0), omega arith)
+
+pub pins-spec : {M : Type 1} → statement M
+pins-spec =
+    tie.close
+    (tie.spec
+    (λ c κs. search needs)
+    (λ c κs. search needs)
+    (λ c κs. search needs)
+    (λ c κs. search needs)
+    (λ c κs. search needs)
+    (λ c κs. search needs)
+    returns)

@@ -1,0 +1,120 @@
+-- The configuration rules (01, "Calls turned away").
+use Prim.Native.Nat.{ℕ, _+_}
+use mathlib.Core.Bool.{Bool, true, false, cond, not, _&&_, _||_}
+use mathlib.Core.Path.{_≡_, refl}
+use mathlib.Core.List.{List, []}
+use lib.Dec.{eqb}
+use Rattle.config.specs.declared.Capture.{Capture}
+use Rattle.config.specs.declared.Clocks.the-variants.{Sync}
+use Rattle.config.specs.declared.Compare.{Compare}
+use Rattle.config.specs.declared.Config.{Config}
+use Rattle.config.specs.declared.Layout.{Layout}
+use Rattle.config.specs.declared.Layout.the-variants.{Split, Single, Bare}
+use Rattle.config.specs.declared.Wire.{Wire}
+use Rattle.config.specs.declared.Wire.the-variants.{Pin, Absent}
+use Rattle.config.specs.Few.{also, has, distinct, within}
+
+abbrev pub split : Layout → Bool
+split Split = true
+split Single = false
+split Bare = false
+
+abbrev pub bare : Layout → Bool
+bare Split = false
+bare Single = false
+bare Bare = true
+
+abbrev pub wired : Wire → Bool
+wired (Pin p) = true
+wired Absent = false
+
+abbrev pub pinOf : Wire → ℕ
+pinOf (Pin p) = p
+pinOf Absent = 0
+
+-- ICR and channel C only when wide
+unfoldable pub widthRule : Config → Bool
+widthRule c = c .wide || not (c .c .present) && not (c .icr .present)
+
+-- split has two control addresses; the single layout is narrow, with one control and force address
+unfoldable pub layoutRule : Config → Bool
+layoutRule c = cond (split (c .layout)) (not (eqb (c .tccra) (c .tccrb))) (not (c .wide) && eqb (c .tccra) (c .tccrb) && eqb (c .tccra) (c .foc))
+
+-- OCRA present except single without WGM, which has no compare
+unfoldable pub compareRule : Config → Bool
+compareRule c = cond (bare (c .layout)) (not (c .a .present) && not (c .b .present) && not (c .c .present)) (c .a .present)
+
+-- a register's address, with that of its high byte when wide
+abbrev pub register : Bool → Bool → ℕ → List ℕ → List ℕ
+register present wide address l = also (present && wide) (address + 1) (also present address l)
+
+-- the control addresses, and a force address that is none of them
+unfoldable pub controls : Config → List ℕ
+controls c =
+    also (not (eqb (c .foc) (c .tccra)) && not (eqb (c .foc) (c .tccrb))) (c .foc)
+    (also (split (c .layout)) (c .tccrb)
+    (also true (c .tccra) []))
+
+-- the addresses owned: those, TCNTn, the compares and ICRn
+unfoldable pub owned : Config → List ℕ
+owned c =
+    register (c .icr .present) (c .wide) (c .icr .address)
+    (register (c .c .present) (c .wide) (c .c .address)
+    (register (c .b .present) (c .wide) (c .b .address)
+    (register (c .a .present) (c .wide) (c .a .address)
+    (register true (c .wide) (c .tcnt) (controls c)))))
+
+-- owned addresses distinct (force may equal a control) and at most 511
+unfoldable pub addressRule : Config → Bool
+addressRule c = distinct (owned c) && within 511 (owned c)
+
+unfoldable pub oneBit : ℕ → Bool
+oneBit m = eqb m 1 || eqb m 2 || eqb m 4 || eqb m 8 || eqb m 16 || eqb m 32 || eqb m 64 || eqb m 128
+
+-- one bit exactly with its unit
+unfoldable pub flagged : Bool → ℕ → Bool
+flagged present flag = cond present (oneBit flag) (eqb flag 0)
+
+unfoldable pub flagsOf : Config → List ℕ
+flagsOf c =
+    also (c .icr .present) (c .icr .flag)
+    (also (c .c .present) (c .c .flag)
+    (also (c .b .present) (c .b .flag)
+    (also (c .a .present) (c .a .flag)
+    (also true (c .tov) []))))
+
+-- TOV one bit, other flags one bit exactly with their unit (ICF with ICR), all distinct
+unfoldable pub flagRule : Config → Bool
+flagRule c =
+    oneBit (c .tov) && flagged (c .a .present) (c .a .flag) && flagged (c .b .present) (c .b .flag) && flagged (c .c .present) (c .c .flag)
+    && flagged (c .icr .present) (c .icr .flag) && distinct (flagsOf c)
+
+abbrev pub pinned : Wire → List ℕ → List ℕ
+pinned w l = also (wired w) (pinOf w) l
+
+unfoldable pub pinsOf : Config → List ℕ
+pinsOf c = pinned (c .t) (pinned (c .icr .wire) (pinned (c .c .wire) (pinned (c .b .wire) (pinned (c .a .wire) []))))
+
+-- pins at most 247, distinct, a compare pin only with its compare, a capture pin only with ICR
+unfoldable pub pinRule : Config → Bool
+pinRule c =
+    (c .a .present || not (wired (c .a .wire))) && (c .b .present || not (wired (c .b .wire))) && (c .c .present || not (wired (c .c .wire)))
+    && (c .icr .present || not (wired (c .icr .wire))) && distinct (pinsOf c) && within 247 (pinsOf c)
+
+-- every rule is kept; one of the two clock tables is what Clocks offers
+unfoldable pub accepted : Config → Bool
+accepted c = widthRule c && layoutRule c && compareRule c && addressRule c && flagRule c && pinRule c
+
+abbrev pub noCompare : Compare
+noCompare = record { present = false; address = 0; flag = 0; force = 0; wire = Absent }
+
+abbrev pub noCapture : Capture
+noCapture = record { present = false; address = 0; flag = 0; wire = Absent }
+
+-- the least that is accepted: one control address, TCNTn and TOVn
+abbrev pub least : Config
+least = record { id = 0; wide = false; layout = Bare; tccra = 0; tccrb = 0; foc = 0; tcnt = 1; a = noCompare; b = noCompare; c = noCompare; icr = noCapture; tov = 1; t = Absent; clocks = Sync; group = 0; prr = 0; sleeprun = 0 }
+
+pub least-accepted : accepted least ≡ true
+unfolding accepted widthRule layoutRule compareRule addressRule controls owned flagRule flagged oneBit flagsOf pinRule pinsOf also has distinct within
+least-accepted = refl

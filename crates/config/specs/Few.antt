@@ -1,0 +1,29 @@
+-- Lists of a few numbers.
+use Prim.Native.Nat.{ℕ}
+use mathlib.Core.Bool.{Bool, true, false, cond, not, _&&_, _||_}
+use mathlib.Core.List.{List, [], _∷_, _++_}
+use lib.ListN.{take}
+use lib.Dec.{eqb, leb}
+use Rattle.config.specs.declared.few.Few.{Few}
+
+-- the numbers that the code holds
+abbrev pub held : Few → List ℕ
+held f = take (f .len) (f .items)
+
+-- one more, where it is wanted
+unfoldable pub also : Bool → ℕ → List ℕ → List ℕ
+also wanted x l = cond wanted (l ++ (x ∷ [])) l
+
+unfoldable pub has : ℕ → List ℕ → Bool
+has x [] = false
+has x (y ∷ l) = eqb y x || has x l
+
+-- no two are the same
+unfoldable pub distinct : List ℕ → Bool
+distinct [] = true
+distinct (x ∷ l) = not (has x l) && distinct l
+
+-- all are at most a bound
+unfoldable pub within : ℕ → List ℕ → Bool
+within bound [] = true
+within bound (x ∷ l) = leb x bound && within bound l

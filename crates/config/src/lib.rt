@@ -1,0 +1,351 @@
+// What is fixed of a timer, and the rules that it keeps.
+
+pub mod few;
+
+use crate::few::Few;
+ghost use mathlib.Core.Path.{_≡_};
+ghost use Prim.Native.Nat.{_+_, _<_, _≤_};
+ghost use Rattle.config.specs.Few.{held};
+ghost use Rattle.config.specs.Config.{split, bare, wired, pinOf, oneBit, flagged, controls, owned, flagsOf, pinsOf, widthRule, layoutRule, compareRule, addressRule, flagRule, pinRule, accepted, register, pinned, least};
+
+// Where the control bits stand: TCCRnA and TCCRnB, one TCCRn, or one TCCRn without WGM.
+pub enum Layout {
+    Split,
+    Single,
+    Bare,
+}
+
+// Which of the two clock select tables it has.
+pub enum Clocks {
+    Sync,
+    Timer2,
+}
+
+// A pin, where there is one.
+pub enum Wire {
+    Pin(u8),
+    Absent,
+}
+
+// A compare unit: OCRnx, OCFnx, FOCnx and OCnx.
+pub struct Compare {
+    pub present: bool,
+    pub address: u16,
+    pub flag: u8,
+    pub force: u8,
+    pub wire: Wire,
+}
+
+// The capture unit: ICRn, ICFn and ICPn.
+pub struct Capture {
+    pub present: bool,
+    pub address: u16,
+    pub flag: u8,
+    pub wire: Wire,
+}
+
+// foc is where the force bits stand, prr the timer's bit of the power reduction register, sleeprun the sleep modes that
+// it counts in.
+pub struct Config {
+    pub id: u8,
+    pub wide: bool,
+    pub layout: Layout,
+    pub tccra: u16,
+    pub tccrb: u16,
+    pub foc: u16,
+    pub tcnt: u16,
+    pub a: Compare,
+    pub b: Compare,
+    pub c: Compare,
+    pub icr: Capture,
+    pub tov: u8,
+    pub t: Wire,
+    pub clocks: Clocks,
+    pub group: u8,
+    pub prr: u16,
+    pub sleeprun: u8,
+}
+
+// Is a mask a single bit.
+pub fn is_one_bit(mask: u8) -> bool
+    ensures { λ r. ⌜ r ≡ oneBit mask ⌝ }
+{
+    (mask == 1)
+        | (mask == 2)
+        | (mask == 4)
+        | (mask == 8)
+        | (mask == 16)
+        | (mask == 32)
+        | (mask == 64)
+        | (mask == 128)
+}
+
+// Has a flag one bit exactly with its unit.
+pub fn is_flagged(present: bool, flag: u8) -> bool
+    ensures { λ r. ⌜ r ≡ flagged present flag ⌝ }
+{
+    if present { is_one_bit(flag) } else { flag == 0 }
+}
+
+impl Wire {
+    // Is there a pin.
+    pub fn is_pin(self) -> bool
+        ensures { λ r. ⌜ r ≡ wired self ⌝ }
+    {
+        match self {
+            Wire::Pin(_) => true,
+            Wire::Absent => false,
+        }
+    }
+
+    // The pin's number, 0 where there is none.
+    pub fn pin(self) -> u8
+        ensures { λ r. ⌜ r ≡ pinOf self ⌝ }
+    {
+        match self {
+            Wire::Pin(p) => p,
+            Wire::Absent => 0,
+        }
+    }
+}
+
+impl Few {
+    // A register's address, and that of its high byte in a wide timer.
+    pub fn register(self, present: bool, wide: bool, address: u16) -> Few
+        requires { ⌜ self .len ≤ 11 ⌝ }
+        ensures { λ r. ⌜ (held r ≡ register present wide address (held self)) × (r .len ≤ self .len + 2) ⌝ }
+    {
+        let low = address as u32;
+        let first = self.also(present, low);
+        first.also(present & wide, low + 1)
+    }
+
+    // A pin, where there is one.
+    pub fn pinned(self, wire: Wire) -> Few
+        requires { ⌜ self .len < 13 ⌝ }
+        ensures { λ r. ⌜ (held r ≡ pinned wire (held self)) × (r .len ≤ self .len + 1) ⌝ }
+    {
+        self.also(wire.is_pin(), wire.pin() as u32)
+    }
+}
+
+impl Config {
+    // The least that is accepted: one control address, TCNT and TOV.
+    pub fn least() -> Config
+        ensures { λ r. ⌜ r ≡ least ⌝ }
+    {
+        let compare = Compare {
+            present: false,
+            address: 0,
+            flag: 0,
+            force: 0,
+            wire: Wire::Absent,
+        };
+        let capture = Capture {
+            present: false,
+            address: 0,
+            flag: 0,
+            wire: Wire::Absent,
+        };
+        Config {
+            id: 0,
+            wide: false,
+            layout: Layout::Bare,
+            tccra: 0,
+            tccrb: 0,
+            foc: 0,
+            tcnt: 1,
+            a: compare,
+            b: compare,
+            c: compare,
+            icr: capture,
+            tov: 1,
+            t: Wire::Absent,
+            clocks: Clocks::Sync,
+            group: 0,
+            prr: 0,
+            sleeprun: 0,
+        }
+    }
+
+    // Are there two control addresses.
+    pub fn is_split(self) -> bool
+        ensures { λ r. ⌜ r ≡ split (self .layout) ⌝ }
+    {
+        let layout = self.layout;
+        match layout {
+            Layout::Split => true,
+            Layout::Single => false,
+            Layout::Bare => false,
+        }
+    }
+
+    // Is there no WGM.
+    pub fn is_bare(self) -> bool
+        ensures { λ r. ⌜ r ≡ bare (self .layout) ⌝ }
+    {
+        let layout = self.layout;
+        match layout {
+            Layout::Split => false,
+            Layout::Single => false,
+            Layout::Bare => true,
+        }
+    }
+
+    // ICR and channel C only when wide.
+    pub fn keeps_width(self) -> bool
+        ensures { λ r. ⌜ r ≡ widthRule self ⌝ }
+    {
+        let c = self.c;
+        let icr = self.icr;
+        self.wide | (!c.present & !icr.present)
+    }
+
+    // Split has two control addresses; a single layout is narrow, with one control and force address.
+    pub fn keeps_layout(self) -> bool
+        ensures { λ r. ⌜ r ≡ layoutRule self ⌝ }
+    {
+        if self.is_split() {
+            self.tccra != self.tccrb
+        } else {
+            !self.wide & (self.tccra == self.tccrb) & (self.tccra == self.foc)
+        }
+    }
+
+    // OCRA is present, except that a single layout without WGM has no compare.
+    pub fn keeps_compares(self) -> bool
+        ensures { λ r. ⌜ r ≡ compareRule self ⌝ }
+    {
+        let a = self.a;
+        let b = self.b;
+        let c = self.c;
+        if self.is_bare() {
+            !a.present & !b.present & !c.present
+        } else {
+            a.present
+        }
+    }
+
+    // The control addresses, and a force address of its own.
+    pub fn controls(self) -> Few
+        ensures { λ r. ⌜ (held r ≡ controls self) × (r .len ≤ 3) ⌝ }
+    {
+        let two = Few::new()
+            .also(true, self.tccra as u32)
+            .also(self.is_split(), self.tccrb as u32);
+        two.also(
+            (self.foc != self.tccra) & (self.foc != self.tccrb),
+            self.foc as u32,
+        )
+    }
+
+    // The addresses that the timer owns.
+    pub fn owned(self) -> Few
+        ensures { λ r. ⌜ (held r ≡ owned self) × (r .len ≤ 13) ⌝ }
+    {
+        let wide = self.wide;
+        let a = self.a;
+        let b = self.b;
+        let c = self.c;
+        let icr = self.icr;
+        let count = self.controls().register(true, wide, self.tcnt);
+        let first = count.register(a.present, wide, a.address);
+        let second = first.register(b.present, wide, b.address);
+        let third = second.register(c.present, wide, c.address);
+        third.register(icr.present, wide, icr.address)
+    }
+
+    // The flag bits of the units it has.
+    pub fn flags(self) -> Few
+        ensures { λ r. ⌜ (held r ≡ flagsOf self) × (r .len ≤ 13) ⌝ }
+    {
+        let a = self.a;
+        let b = self.b;
+        let c = self.c;
+        let icr = self.icr;
+        let two = Few::new()
+            .also(true, self.tov as u32)
+            .also(a.present, a.flag as u32);
+        let four = two.also(b.present, b.flag as u32)
+            .also(c.present, c.flag as u32);
+        four.also(icr.present, icr.flag as u32)
+    }
+
+    // The pins it has.
+    pub fn pins(self) -> Few
+        ensures { λ r. ⌜ (held r ≡ pinsOf self) × (r .len ≤ 13) ⌝ }
+    {
+        let a = self.a;
+        let b = self.b;
+        let c = self.c;
+        let icr = self.icr;
+        let wa = a.wire;
+        let wb = b.wire;
+        let wc = c.wire;
+        let wi = icr.wire;
+        let wt = self.t;
+        Few::new()
+            .pinned(wa)
+            .pinned(wb)
+            .pinned(wc)
+            .pinned(wi)
+            .pinned(wt)
+    }
+
+    // Owned addresses are distinct and at most 511.
+    pub fn keeps_addresses(self) -> bool
+        ensures { λ r. ⌜ r ≡ addressRule self ⌝ }
+    {
+        let owned = self.owned();
+        owned.distinct() & owned.within(511)
+    }
+
+    // TOV is one bit, the other flags one bit exactly with their unit, all distinct.
+    pub fn keeps_flags(self) -> bool
+        ensures { λ r. ⌜ r ≡ flagRule self ⌝ }
+    {
+        let a = self.a;
+        let b = self.b;
+        let c = self.c;
+        let icr = self.icr;
+        is_one_bit(self.tov)
+            & is_flagged(a.present, a.flag)
+            & is_flagged(b.present, b.flag)
+            & is_flagged(c.present, c.flag)
+            & is_flagged(icr.present, icr.flag)
+            & self.flags().distinct()
+    }
+
+    // Pins are at most 247 and distinct, a compare's or the capture's only with its unit.
+    pub fn keeps_pins(self) -> bool
+        ensures { λ r. ⌜ r ≡ pinRule self ⌝ }
+    {
+        let a = self.a;
+        let b = self.b;
+        let c = self.c;
+        let icr = self.icr;
+        let wa = a.wire;
+        let wb = b.wire;
+        let wc = c.wire;
+        let wi = icr.wire;
+        let pins = self.pins();
+        (a.present | !wa.is_pin())
+            & (b.present | !wb.is_pin())
+            & (c.present | !wc.is_pin())
+            & (icr.present | !wi.is_pin())
+            & pins.distinct()
+            & pins.within(247)
+    }
+
+    // Does the configuration keep every rule.
+    pub fn is_accepted(self) -> bool
+        ensures { λ r. ⌜ r ≡ accepted self ⌝ }
+    {
+        self.keeps_width()
+            & self.keeps_layout()
+            & self.keeps_compares()
+            & self.keeps_addresses()
+            & self.keeps_flags()
+            & self.keeps_pins()
+    }
+}

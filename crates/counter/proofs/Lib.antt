@@ -1,0 +1,11 @@
+pub mod Bounds
+pub mod Law
+pub mod Clocks
+pub mod Runs
+pub mod Lasting
+pub mod Signs
+pub mod Steps
+pub mod Writes
+pub mod Ticks
+pub mod Advances
+pub mod Starts

@@ -1,0 +1,11 @@
+pub mod Units
+pub mod Modes
+pub mod Setting
+pub mod Outputs
+pub mod Count
+pub mod Distance
+pub mod Passage
+pub mod Valid
+pub mod Law
+pub mod Logs
+pub mod Fresh

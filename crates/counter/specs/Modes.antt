@@ -1,0 +1,110 @@
+-- Mode, kind, TOP, MAX and clock: the tables of 01, "Count, direction, next event".
+use Prim.Native.Nat.{ℕ, _+_, _*_, _/_, _%_}
+use mathlib.Core.Bool.{Bool, true, false, cond, not, _&&_, _||_}
+use mathlib.Core.List.{List, [], _∷_}
+use lib.ListN.{getD}
+use lib.Dec.{eqb, leb, ltb}
+use Rattle.config.specs.declared.Clocks.{Clocks}
+use Rattle.config.specs.declared.Clocks.the-variants.{Sync, Timer2}
+use Rattle.counter.specs.declared.modes.Wave.{Wave}
+use Rattle.counter.specs.declared.state.Timer.{Timer}
+use Rattle.counter.specs.declared.units.Prescaler.{Prescaler}
+
+-- kinds: normal, CTC, fast PWM, phase correct PWM, phase and frequency correct PWM
+abbrev pub N : ℕ
+N = 0
+
+abbrev pub C : ℕ
+C = 1
+
+abbrev pub F : ℕ
+F = 2
+
+abbrev pub P : ℕ
+P = 3
+
+abbrev pub Q : ℕ
+Q = 4
+
+-- sources of TOP: fixed by the mode, OCRnA, ICRn
+abbrev pub X : ℕ
+X = 0
+
+abbrev pub A : ℕ
+A = 1
+
+abbrev pub I : ℕ
+I = 2
+
+-- narrow modes 0 to 7
+abbrev pub narrowKinds : List ℕ
+narrowKinds = N ∷ P ∷ C ∷ F ∷ N ∷ P ∷ N ∷ F ∷ []
+
+abbrev pub narrowSources : List ℕ
+narrowSources = X ∷ X ∷ A ∷ X ∷ X ∷ A ∷ X ∷ A ∷ []
+
+abbrev pub narrowTops : List ℕ
+narrowTops = 0xFF ∷ 0xFF ∷ 0 ∷ 0xFF ∷ 0xFF ∷ 0 ∷ 0xFF ∷ 0 ∷ []
+
+-- wide modes 0 to 15
+abbrev pub wideKinds : List ℕ
+wideKinds = N ∷ P ∷ P ∷ P ∷ C ∷ F ∷ F ∷ F ∷ Q ∷ Q ∷ P ∷ P ∷ C ∷ N ∷ F ∷ F ∷ []
+
+abbrev pub wideSources : List ℕ
+wideSources = X ∷ X ∷ X ∷ X ∷ A ∷ X ∷ X ∷ X ∷ I ∷ A ∷ I ∷ A ∷ I ∷ X ∷ I ∷ A ∷ []
+
+abbrev pub wideTops : List ℕ
+wideTops = 0xFFFF ∷ 0xFF ∷ 0x1FF ∷ 0x3FF ∷ 0 ∷ 0xFF ∷ 0x1FF ∷ 0x3FF ∷ 0 ∷ 0 ∷ 0 ∷ 0 ∷ 0 ∷ 0xFFFF ∷ 0 ∷ 0 ∷ []
+
+-- cycles a tick by clock select; 0 where the clock is stopped or the T pin's
+abbrev pub syncDivisors : List ℕ
+syncDivisors = 0 ∷ 1 ∷ 8 ∷ 64 ∷ 256 ∷ 1024 ∷ 0 ∷ 0 ∷ []
+
+abbrev pub timer2Divisors : List ℕ
+timer2Divisors = 0 ∷ 1 ∷ 8 ∷ 32 ∷ 64 ∷ 128 ∷ 256 ∷ 1024 ∷ []
+
+-- the mode number joins bits 4:3 (wide) or 3 (narrow) of TCCRnB above bits 1:0 of TCCRnA
+unfoldable pub modeAt : Bool → ℕ → ℕ → ℕ
+modeAt wide tccra tccrb = cond wide (tccrb / 8 % 4 * 4 + tccra % 4) (tccrb / 8 % 2 * 4 + tccra % 4)
+
+unfoldable pub kindAt : Bool → ℕ → ℕ
+kindAt wide mode = cond wide (getD wideKinds mode 0) (getD narrowKinds mode 0)
+
+unfoldable pub sourceAt : Bool → ℕ → ℕ
+sourceAt wide mode = cond wide (getD wideSources mode 0) (getD narrowSources mode 0)
+
+unfoldable pub fixedAt : Bool → ℕ → ℕ
+fixedAt wide mode = cond wide (getD wideTops mode 0) (getD narrowTops mode 0)
+
+-- MAX
+unfoldable pub maxAt : Bool → ℕ
+maxAt wide = cond wide 0xFFFF 0xFF
+
+-- COM 1 toggles channel A in these PWM modes too (01, "Outputs and pins")
+unfoldable pub togglesAt : Bool → ℕ → Bool
+togglesAt wide mode = cond wide (eqb mode 9 || eqb mode 11 || eqb mode 15) (eqb mode 5 || eqb mode 7)
+
+unfoldable pub divisorAt : Clocks → ℕ → ℕ
+divisorAt Sync select = getD syncDivisors select 0
+divisorAt Timer2 select = getD timer2Divisors select 0
+
+unfoldable pub modeOf : Timer → ℕ
+modeOf t = modeAt (t .config .wide) (t .registers .tccra) (t .registers .tccrb)
+
+-- what decides the count: the mode's kind and TOP, MAX, ICRn, and which compares there are
+unfoldable pub waveOf : Timer → ℕ → Wave
+waveOf t mode = record { kind = kindAt (t .config .wide) mode; source = sourceAt (t .config .wide) mode; fixed = fixedAt (t .config .wide) mode; max = maxAt (t .config .wide); icr = t .registers .icr; a = t .config .a .present; b = t .config .b .present; c = t .config .c .present }
+
+unfoldable pub divisorOf : Timer → ℕ
+divisorOf t = divisorAt (t .config .clocks) (t .registers .tccrb % 8)
+
+abbrev pub prescalerOf : Timer → Prescaler
+prescalerOf t = record { origin = t .clock .origin; divisor = divisorOf t }
+
+-- sleep, power reduction or TSM hold the counter
+unfoldable pub heldOf : Timer → Bool
+heldOf t = t .halts .asleep || t .halts .reduced || t .halts .tsm
+
+-- it runs if a divisor is selected and nothing holds it
+unfoldable pub runningOf : Timer → Bool
+runningOf t = ltb 0 (divisorOf t) && not (heldOf t)

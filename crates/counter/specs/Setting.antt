@@ -1,0 +1,56 @@
+-- A timer as the ticks of one call see it: what they cannot change, and what they move.
+use Prim.Native.Nat.{ℕ, _/_, _%_}
+use mathlib.Core.Bool.{Bool, true, false, cond, _||_}
+use lib.Dec.{eqb, leb}
+use Rattle.config.specs.declared.Compare.{Compare}
+use Rattle.counter.specs.declared.modes.Wave.{Wave}
+use Rattle.counter.specs.declared.setting.Channel.{Channel}
+use Rattle.counter.specs.declared.setting.Moving.{Moving}
+use Rattle.counter.specs.declared.setting.Setting.{Setting}
+use Rattle.counter.specs.declared.state.Timer.{Timer}
+use Rattle.counter.specs.Modes.{C, modeOf, waveOf, togglesAt}
+
+-- COM 0 is off, COM 1 toggles in N and C and where channel A toggles, else it is off (01, "Outputs and pins")
+unfoldable pub enabledAt : ℕ → ℕ → Bool → Bool
+enabledAt comx kind toggles = cond (eqb comx 0) false (cond (eqb comx 1) (leb kind C || toggles) true)
+
+unfoldable pub channelOf : Compare → ℕ → ℕ → Bool → Channel
+channelOf unit comx kind toggles = record { comx = comx; enabled = enabledAt comx kind toggles; wire = unit .wire; flag = unit .flag }
+
+-- COM fields are bits 7:6, 5:4 and 3:2 of TCCRnA
+unfoldable pub settingAt : Timer → ℕ → Wave → Setting
+settingAt t mode w = record {
+  wave = w;
+  a = channelOf (t .config .a) (t .registers .tccra / 64 % 4) (w .kind) (togglesAt (t .config .wide) mode);
+  b = channelOf (t .config .b) (t .registers .tccra / 16 % 4) (w .kind) false;
+  c = channelOf (t .config .c) (t .registers .tccra / 4 % 4) (w .kind) false;
+  buffer = t .buffer;
+  tov = t .config .tov;
+  capture = t .config .icr .present;
+  icf = t .config .icr .flag;
+  timsk = t .flags .timsk;
+  id = t .config .id;
+}
+
+-- what no tick changes
+abbrev pub settingOf : Timer → Setting
+settingOf t = settingAt t (modeOf t) (waveOf t (modeOf t))
+
+-- all that a tick changes
+abbrev pub movingOf : Timer → Moving
+movingOf t = record { counter = t .counter; ocr = t .ocr; oc = t .oc; drives = t .drives; tifr = t .flags .tifr }
+
+-- the timer with what moved put back
+abbrev pub settle : Timer → Moving → Timer
+settle t m = record {
+  config = t .config;
+  counter = m .counter;
+  ocr = m .ocr;
+  buffer = t .buffer;
+  oc = m .oc;
+  drives = m .drives;
+  registers = t .registers;
+  flags = record { tifr = m .tifr; timsk = t .flags .timsk };
+  clock = t .clock;
+  halts = t .halts;
+}

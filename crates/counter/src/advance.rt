@@ -1,0 +1,290 @@
+// Time passes: by events up to a cycle, or to the first tick whose records do not fit.
+
+use crate::setting::Moving;
+use crate::setting::Setting;
+use crate::state::Clock;
+use crate::state::Timer;
+use crate::units::Cycle;
+use crate::units::Prescaler;
+use crate::units::Ticks;
+use records::Log;
+ghost use mathlib.Core.Path.{_≡_};
+ghost use Prim.Native.Nat.{_+_, _<_, _≤_, _^_, max};
+ghost use lib.ListN.{length};
+ghost use Rattle.counter.specs.Passage.{ticks, advanced, syncTo, Ready, Ran, Made, Finishes, Works, Advances};
+ghost use Rattle.counter.specs.Logs.{Logs, struck};
+ghost use Rattle.counter.specs.Valid.{Valid};
+
+// Where a run stands: what moved, quiet ticks that lie ahead, the number of its last tick, and the place of the next record.
+pub struct Progress {
+    pub moving: Moving,
+    pub gap: u32,
+    pub at: Ticks,
+    pub to: usize,
+}
+
+// An event's tick made aside: how the run stands after it, and its records.
+pub struct Aside {
+    pub after: Progress,
+    pub log: Log,
+}
+
+// Where a run ends: at its last tick, or before the first whose records do not fit.
+pub struct Finished {
+    pub moving: Moving,
+    pub at: Ticks,
+    pub to: usize,
+    pub paused: bool,
+}
+
+// What an advance changes: no timer is copied for it.
+pub struct Work {
+    pub moving: Moving,
+    pub sync: Cycle,
+    pub written: usize,
+    pub paused: bool,
+}
+
+// The timer after an advance, the bytes written, and whether it stopped before the cycle.
+pub struct Advanced {
+    pub timer: Timer,
+    pub written: usize,
+    pub paused: bool,
+}
+
+// A timer after a call, and the call's records.
+pub struct Logged {
+    pub timer: Timer,
+    pub log: Log,
+}
+
+pub fn later(a: u64, b: u64) -> u64
+    ensures { λ r. ⌜ r ≡ max a b ⌝ }
+{
+    if a <= b { b } else { a }
+}
+
+impl Setting {
+    // Event by event up to a tick, while there are 110 bytes for the event's records.
+    pub fn run(self, start: Progress, end: Ticks, p: Prescaler, area: &mut [u8]) -> Progress
+        requires { ⌜ Ready self p start (end .0) (length (now area)) ⌝ }
+        ensures { λ r. ⌜ Ran self p start (end .0) (now (area .entry)) r (now (area .exit)) ⌝ }
+    {
+        let wave = self.wave;
+        let from = start.at;
+        let mut m = start.moving;
+        let mut gap = start.gap;
+        let mut at = from.0;
+        let mut to = start.to;
+        while ((gap as u64) < end.0 - at) & (110 <= area.len() - to) {
+            let near = m.skip(wave, gap);
+            let tick = at + (gap as u64) + 1;
+            let t = self.tick(near, area, to, p.cycle(Ticks(tick)));
+            m = t.moving;
+            to = t.to;
+            at = tick;
+            let counter = m.counter;
+            let ocr = m.ocr;
+            gap = wave.gap(counter, ocr);
+        }
+        Progress {
+            moving: m,
+            gap,
+            at: Ticks(at),
+            to,
+        }
+    }
+
+    // The next event's tick, its records in a log aside.
+    pub fn aside(self, start: Progress, p: Prescaler) -> Aside
+        requires { ⌜ Ready self p start (start .at .0 + (start .gap + 1)) (start .to) ⌝ }
+        ensures { λ r. ⌜ Made self p start r ⌝ }
+    {
+        let mut bytes = [0u8; 110];
+        let at = start.at;
+        let moving = start.moving;
+        let begin = Progress {
+            moving,
+            gap: start.gap,
+            at,
+            to: 0,
+        };
+        let after = self.run(begin, Ticks(at.0 + ((start.gap as u64) + 1)), p, &mut bytes);
+        let log = Log {
+            bytes,
+            len: after.to,
+        };
+        Aside { after, log }
+    }
+
+    // The events near the area's end: each is made aside first, and written if it fits. Then the quiet ticks that are left.
+    pub fn finish(self, start: Progress, end: Ticks, p: Prescaler, area: &mut [u8]) -> Finished
+        requires { ⌜ Ready self p start (end .0) (length (now area)) ⌝ }
+        ensures { λ r. ⌜ Finishes self p start (end .0) (now (area .entry)) r (now (area .exit)) ⌝ }
+    {
+        let wave = self.wave;
+        let first = start.at;
+        let mut r = start;
+        let mut at = first.0;
+        while (r.gap as u64) < end.0 - at {
+            let to = r.to;
+            let gap = r.gap;
+            let next = self.aside(r, p);
+            let log = next.log;
+            let after = next.after;
+            let moving = after.moving;
+            if log.write(area, to) {
+                let tick = after.at;
+                at = tick.0;
+                r = Progress {
+                    moving,
+                    gap: after.gap,
+                    at: tick,
+                    to: to + log.len,
+                };
+            } else {
+                let m = r.moving;
+                return Finished {
+                    moving: m.skip(wave, gap),
+                    at: Ticks(at + (gap as u64)),
+                    to,
+                    paused: true,
+                };
+            }
+        }
+        let m = r.moving;
+        Finished {
+            moving: m.skip(wave, (end.0 - at) as u32),
+            at: end,
+            to: r.to,
+            paused: false,
+        }
+    }
+}
+
+impl Timer {
+    // The timer at another sync cycle; the latest never falls.
+    pub fn synced(self, cycle: Cycle) -> Timer
+        ensures { λ r. ⌜ r ≡ syncTo self (cycle .0) ⌝ }
+    {
+        let was = self.clock;
+        let latest = was.latest;
+        let origin = was.origin;
+        let last = Cycle(later(latest.0, cycle.0));
+        let clock = Clock {
+            sync: cycle,
+            origin,
+            latest: last,
+        };
+        let mut t = self;
+        t.clock = clock;
+        t
+    }
+
+    // One tick that an edge of the T pin gives, with its records: the prescaler stands still at the edge's cycle.
+    pub fn tick(self, cycle: Cycle) -> Logged
+        requires { ⌜ (Valid self) × (cycle .0 < 2 ^ 62) ⌝ }
+        ensures { λ r. ⌜ Logs (struck self) (cycle .0) r ⌝ }
+    {
+        let mode = self.mode();
+        let wave = self.wave_at(mode);
+        let s = self.setting(mode, wave);
+        let moving = self.moving();
+        let start = Progress {
+            moving,
+            gap: 0,
+            at: Ticks(0),
+            to: 0,
+        };
+        let p = Prescaler {
+            origin: cycle,
+            divisor: 0,
+        };
+        let a = s.aside(start, p);
+        let after = a.after;
+        let log = a.log;
+        let moved = after.moving;
+        Logged {
+            timer: self.settled(moved),
+            log,
+        }
+    }
+
+    // What an advance changes.
+    pub fn work(self, cycle: Cycle, area: &mut [u8]) -> Work
+        requires { ⌜ (Valid self) × (self .clock .latest .0 ≤ cycle .0) × (cycle .0 < 2 ^ 62) ⌝ }
+        ensures { λ r. ⌜ Works self (advanced ticks self (cycle .0) (length (now (area .entry)))) (now (area .entry)) r (now (area .exit)) ⌝ }
+    {
+        let clock = self.clock;
+        let sync = clock.sync;
+        let moving = self.moving();
+        if self.running() {
+            let p = self.prescaler();
+            let first = p.ticks(sync);
+            let end = p.ticks(cycle);
+            let mode = self.mode();
+            let wave = self.wave_at(mode);
+            let counter = self.counter;
+            let ocr = self.ocr;
+            let gap = wave.gap(counter, ocr);
+            let n = end.0 - first.0;
+            if n <= (gap as u64) {
+                return Work {
+                    moving: moving.skip(wave, n as u32),
+                    sync: cycle,
+                    written: 0,
+                    paused: false,
+                };
+            }
+            let s = self.setting(mode, wave);
+            let start = Progress {
+                moving,
+                gap,
+                at: first,
+                to: 0,
+            };
+            let near = s.run(start, end, p, area);
+            let f = s.finish(near, end, p, area);
+            let m = f.moving;
+            if f.paused {
+                let last = p.cycle(f.at);
+                Work {
+                    moving: m,
+                    sync: Cycle(later(sync.0, last.0)),
+                    written: f.to,
+                    paused: true,
+                }
+            } else {
+                Work {
+                    moving: m,
+                    sync: cycle,
+                    written: f.to,
+                    paused: false,
+                }
+            }
+        } else {
+            Work {
+                moving,
+                sync: cycle,
+                written: 0,
+                paused: false,
+            }
+        }
+    }
+
+    // The timer at a cycle, or paused before the first tick whose records do not fit the area.
+    pub fn advance(self, cycle: Cycle, area: &mut [u8]) -> Advanced
+        requires { ⌜ (Valid self) × (self .clock .latest .0 ≤ cycle .0) × (cycle .0 < 2 ^ 62) ⌝ }
+        ensures { λ r. ⌜ Advances (advanced ticks self (cycle .0) (length (now (area .entry)))) (now (area .entry)) r (now (area .exit)) ⌝ }
+    {
+        let w = self.work(cycle, area);
+        let moving = w.moving;
+        let sync = w.sync;
+        let t = self.settled(moving);
+        Advanced {
+            timer: t.synced(sync),
+            written: w.written,
+            paused: w.paused,
+        }
+    }
+}

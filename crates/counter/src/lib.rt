@@ -1,0 +1,11 @@
+// The timer's work, by value: each step takes the timer and gives the timer back.
+
+pub mod advance;
+pub mod count;
+pub mod distance;
+pub mod fresh;
+pub mod modes;
+pub mod outputs;
+pub mod setting;
+pub mod state;
+pub mod units;
