@@ -14,20 +14,24 @@ use Rattle.config.specs.declared.Wire.{Wire}
 use Rattle.config.specs.declared.Wire.the-variants.{Pin, Absent}
 use Rattle.config.specs.Few.{also, has, distinct, within}
 
+-- two control registers, TCCRnA and TCCRnB
 abbrev pub split : Layout → Bool
 split Split = true
 split Single = false
 split Bare = false
 
+-- single without WGM
 abbrev pub bare : Layout → Bool
 bare Split = false
 bare Single = false
 bare Bare = true
 
+-- there is a pin
 abbrev pub wired : Wire → Bool
 wired (Pin p) = true
 wired Absent = false
 
+-- the pin's number, 0 where there is none
 abbrev pub pinOf : Wire → ℕ
 pinOf (Pin p) = p
 pinOf Absent = 0
@@ -68,6 +72,7 @@ owned c =
 unfoldable pub addressRule : Config → Bool
 addressRule c = distinct (owned c) && within 511 (owned c)
 
+-- a mask of a single bit
 unfoldable pub oneBit : ℕ → Bool
 oneBit m = eqb m 1 || eqb m 2 || eqb m 4 || eqb m 8 || eqb m 16 || eqb m 32 || eqb m 64 || eqb m 128
 
@@ -75,6 +80,7 @@ oneBit m = eqb m 1 || eqb m 2 || eqb m 4 || eqb m 8 || eqb m 16 || eqb m 32 || e
 unfoldable pub flagged : Bool → ℕ → Bool
 flagged present flag = cond present (oneBit flag) (eqb flag 0)
 
+-- the flags of the units that the timer has
 unfoldable pub flagsOf : Config → List ℕ
 flagsOf c =
     also (c .icr .present) (c .icr .flag)
@@ -89,9 +95,11 @@ flagRule c =
     oneBit (c .tov) && flagged (c .a .present) (c .a .flag) && flagged (c .b .present) (c .b .flag) && flagged (c .c .present) (c .c .flag)
     && flagged (c .icr .present) (c .icr .flag) && distinct (flagsOf c)
 
+-- a pin more, where there is one
 abbrev pub pinned : Wire → List ℕ → List ℕ
 pinned w l = also (wired w) (pinOf w) l
 
+-- the pins that the timer has
 unfoldable pub pinsOf : Config → List ℕ
 pinsOf c = pinned (c .t) (pinned (c .icr .wire) (pinned (c .c .wire) (pinned (c .b .wire) (pinned (c .a .wire) []))))
 
@@ -105,9 +113,11 @@ pinRule c =
 unfoldable pub accepted : Config → Bool
 accepted c = widthRule c && layoutRule c && compareRule c && addressRule c && flagRule c && pinRule c
 
+-- an absent compare unit
 abbrev pub noCompare : Compare
 noCompare = record { present = false; address = 0; flag = 0; force = 0; wire = Absent }
 
+-- an absent capture unit
 abbrev pub noCapture : Capture
 noCapture = record { present = false; address = 0; flag = 0; wire = Absent }
 

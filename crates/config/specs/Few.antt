@@ -14,6 +14,7 @@ held f = take (f .len) (f .items)
 unfoldable pub also : Bool → ℕ → List ℕ → List ℕ
 also wanted x l = cond wanted (l ++ (x ∷ [])) l
 
+-- a number is among them
 unfoldable pub has : ℕ → List ℕ → Bool
 has x [] = false
 has x (y ∷ l) = eqb y x || has x l

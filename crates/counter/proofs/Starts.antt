@@ -1,7 +1,7 @@
 -- A fresh timer is valid.
 use Prim.Native.Nat.{ℕ, zero, suc, _≤_}
 use native.Mathlib.Omega.{arith}
-use mathlib.Core.Path.{_≡_, refl}
+use mathlib.Core.Path.{refl}
 use mathlib.Core.Bool.{true, false, false≢true}
 use mathlib.Core.Logic.{inl}
 use mathlib.Core.List.{[], _∷_}

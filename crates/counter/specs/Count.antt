@@ -2,7 +2,7 @@
 use Prim.Native.Nat.{ℕ, _+_, _-_, _*_, _≤_}
 use mathlib.Core.Path.{_≡_}
 use mathlib.Core.Bool.{Bool, true, false, cond, not, _&&_, _||_}
-use mathlib.Core.List.{List, [], _∷_, _++_}
+use mathlib.Core.List.{List, _++_}
 use lib.ListN.{length, getD}
 use lib.Seq.{sets}
 use lib.Dec.{eqb, leb}
@@ -16,9 +16,10 @@ use Rattle.counter.specs.declared.modes.Wave.{Wave}
 use Rattle.counter.specs.declared.setting.Moving.{Moving}
 use Rattle.counter.specs.declared.setting.Setting.{Setting}
 use Rattle.counter.specs.declared.state.Counter.{Counter}
-use Rattle.counter.specs.Modes.{C, F, P, Q, X, A, I}
-use Rattle.counter.specs.Outputs.{Outs, bit, outputs, outsOf}
+use Rattle.counter.specs.Modes.{C, F, P, X, A, I}
+use Rattle.counter.specs.Outputs.{bit, outputs, outsOf}
 
+-- the direction is down
 abbrev pub negative : ℤ → Bool
 negative (pos n) = false
 negative (negsuc n) = true
@@ -56,10 +57,11 @@ nextCount w c top =
 unfoldable pub nextDirection : Wave → ℤ → Bool → Bool → ℤ
 nextDirection w d top zero = cond (leb P (w .kind) && top) (negsuc 0) (cond zero (pos 1) d)
 
--- at TOP: the count stands at it and does not fall; at 0: it falls and stands there
+-- at TOP: the count stands at it and does not fall
 unfoldable pub atTop : Wave → Counter → ℕ → Bool
 atTop w c top = not (falls w c) && eqb (c .count) top
 
+-- at 0: the count falls and stands there
 unfoldable pub atZero : Wave → Counter → Bool
 atZero w c = falls w c && eqb (c .count) 0
 
@@ -82,6 +84,7 @@ eventsAt s m top = record {
   rises = rising (m .counter) top;
 }
 
+-- what happens in the next tick, from the old TOP
 abbrev pub eventsOf : Setting → Moving → Events
 eventsOf s m = eventsAt s m (topOf (s .wave) (getD (m .ocr) 0 0))
 
@@ -145,6 +148,7 @@ tickBy s m e = record {
   log = outputs s e (outsOf m) .log ++ flagLog s e (raised s e) (bitOr (m .tifr) (raised s e));
 }
 
+-- one tick: matches A, B, C on their outputs, the count, its turns, loads and BOTTOM outputs, and the flags
 abbrev pub tick : Setting → Moving → Step
 tick s m = tickBy s m (eventsOf s m)
 

@@ -1,6 +1,6 @@
 -- Quiet ticks ahead, one linear step, and the next event (01, "Count, direction, next event").
 use Prim.Native.Nat.{ℕ, _+_, _-_, min}
-use mathlib.Core.Bool.{Bool, true, false, cond, _&&_}
+use mathlib.Core.Bool.{Bool, cond, _&&_}
 use lib.ListN.{getD}
 use lib.Dec.{eqb, leb}
 use mathlib.Core.List.{List}
@@ -31,6 +31,7 @@ gapAt w down count ocr all =
     min (min all (ahead (w .a) down count (getD ocr 0 0) all))
     (min (ahead (w .b) down count (getD ocr 1 0) all) (ahead (w .c) down count (getD ocr 2 0) all))
 
+-- the same, from the counter and the active compares
 unfoldable pub gap : Wave → Counter → List ℕ → ℕ
 gap w c ocr = gapAt w (falls w c) (c .count) ocr (space (falls w c) (c .count) (topOf w (getD ocr 0 0)) (w .max))
 
@@ -50,5 +51,6 @@ linear w n m = record { counter = record { count = moved (falls w (m .counter)) 
 unfoldable pub nextAt : Timer → ℕ
 nextAt t = cycleAt (prescalerOf t) (ticksAt (prescalerOf t) (t .clock .sync .0) + (gap (waveOf t (modeOf t)) (t .counter) (t .ocr) + 1))
 
+-- none when not running
 unfoldable pub nextOf : Timer → Next
 nextOf t = cond (runningOf t) (At (record { 0 = nextAt t })) Never

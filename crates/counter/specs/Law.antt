@@ -31,6 +31,7 @@ EventsAreTicks = (s : Setting) (p : Prescaler) (fits : ℕ → Bool) (n : ℕ) (
 abbrev pub SyncsAlike : Type 0
 SyncsAlike = (t : Timer) (cycle : ℕ) → Valid t → synced events t cycle ≡ synced ticks t cycle
 
+-- and advance
 abbrev pub AdvancesAlike : Type 0
 AdvancesAlike = (t : Timer) (cycle room : ℕ) → Valid t → advanced events t cycle room ≡ advanced ticks t cycle room
 
@@ -42,6 +43,7 @@ SyncsQuietly = (t : Timer) (cycle : ℕ) → Valid t → t .clock .sync .0 ≤ c
 abbrev pub TickKeeps : Type 0
 TickKeeps = (s : Setting) (m : Moving) → Sound s m → Sound s (tick s m .moving)
 
+-- a linear step below the distance keeps what is kept
 abbrev pub StepKeeps : Type 0
 StepKeeps = (s : Setting) (n : ℕ) (m : Moving) → Sound s m → n ≤ gap (s .wave) (m .counter) (m .ocr) → Sound s (linear (s .wave) n m)
 

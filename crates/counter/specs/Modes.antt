@@ -1,9 +1,9 @@
 -- Mode, kind, TOP, MAX and clock: the tables of 01, "Count, direction, next event".
 use Prim.Native.Nat.{ℕ, _+_, _*_, _/_, _%_}
-use mathlib.Core.Bool.{Bool, true, false, cond, not, _&&_, _||_}
+use mathlib.Core.Bool.{Bool, cond, not, _&&_, _||_}
 use mathlib.Core.List.{List, [], _∷_}
 use lib.ListN.{getD}
-use lib.Dec.{eqb, leb, ltb}
+use lib.Dec.{eqb, ltb}
 use Rattle.config.specs.declared.Clocks.{Clocks}
 use Rattle.config.specs.declared.Clocks.the-variants.{Sync, Timer2}
 use Rattle.counter.specs.declared.modes.Wave.{Wave}
@@ -40,9 +40,11 @@ I = 2
 abbrev pub narrowKinds : List ℕ
 narrowKinds = N ∷ P ∷ C ∷ F ∷ N ∷ P ∷ N ∷ F ∷ []
 
+-- where their TOP comes from
 abbrev pub narrowSources : List ℕ
 narrowSources = X ∷ X ∷ A ∷ X ∷ X ∷ A ∷ X ∷ A ∷ []
 
+-- the TOP that they fix, 0 where they do not
 abbrev pub narrowTops : List ℕ
 narrowTops = 0xFF ∷ 0xFF ∷ 0 ∷ 0xFF ∷ 0xFF ∷ 0 ∷ 0xFF ∷ 0 ∷ []
 
@@ -50,16 +52,19 @@ narrowTops = 0xFF ∷ 0xFF ∷ 0 ∷ 0xFF ∷ 0xFF ∷ 0 ∷ 0xFF ∷ 0 ∷ []
 abbrev pub wideKinds : List ℕ
 wideKinds = N ∷ P ∷ P ∷ P ∷ C ∷ F ∷ F ∷ F ∷ Q ∷ Q ∷ P ∷ P ∷ C ∷ N ∷ F ∷ F ∷ []
 
+-- where their TOP comes from
 abbrev pub wideSources : List ℕ
 wideSources = X ∷ X ∷ X ∷ X ∷ A ∷ X ∷ X ∷ X ∷ I ∷ A ∷ I ∷ A ∷ I ∷ X ∷ I ∷ A ∷ []
 
+-- the TOP that they fix, 0 where they do not
 abbrev pub wideTops : List ℕ
 wideTops = 0xFFFF ∷ 0xFF ∷ 0x1FF ∷ 0x3FF ∷ 0 ∷ 0xFF ∷ 0x1FF ∷ 0x3FF ∷ 0 ∷ 0 ∷ 0 ∷ 0 ∷ 0 ∷ 0xFFFF ∷ 0 ∷ 0 ∷ []
 
--- cycles a tick by clock select; 0 where the clock is stopped or the T pin's
+-- cycles a tick by clock select, of `CS_SYNC`; 0 where the clock is stopped or the T pin's
 abbrev pub syncDivisors : List ℕ
 syncDivisors = 0 ∷ 1 ∷ 8 ∷ 64 ∷ 256 ∷ 1024 ∷ 0 ∷ 0 ∷ []
 
+-- the same of `CS_TIMER2`
 abbrev pub timer2Divisors : List ℕ
 timer2Divisors = 0 ∷ 1 ∷ 8 ∷ 32 ∷ 64 ∷ 128 ∷ 256 ∷ 1024 ∷ []
 
@@ -67,12 +72,15 @@ timer2Divisors = 0 ∷ 1 ∷ 8 ∷ 32 ∷ 64 ∷ 128 ∷ 256 ∷ 1024 ∷ []
 unfoldable pub modeAt : Bool → ℕ → ℕ → ℕ
 modeAt wide tccra tccrb = cond wide (tccrb / 8 % 4 * 4 + tccra % 4) (tccrb / 8 % 2 * 4 + tccra % 4)
 
+-- the kind of a mode, by width
 unfoldable pub kindAt : Bool → ℕ → ℕ
 kindAt wide mode = cond wide (getD wideKinds mode 0) (getD narrowKinds mode 0)
 
+-- where a mode's TOP comes from, by width
 unfoldable pub sourceAt : Bool → ℕ → ℕ
 sourceAt wide mode = cond wide (getD wideSources mode 0) (getD narrowSources mode 0)
 
+-- the TOP that a mode fixes, by width
 unfoldable pub fixedAt : Bool → ℕ → ℕ
 fixedAt wide mode = cond wide (getD wideTops mode 0) (getD narrowTops mode 0)
 
@@ -84,10 +92,12 @@ maxAt wide = cond wide 0xFFFF 0xFF
 unfoldable pub togglesAt : Bool → ℕ → Bool
 togglesAt wide mode = cond wide (eqb mode 9 || eqb mode 11 || eqb mode 15) (eqb mode 5 || eqb mode 7)
 
+-- clock select 0 to 7 takes one of the two tables
 unfoldable pub divisorAt : Clocks → ℕ → ℕ
 divisorAt Sync select = getD syncDivisors select 0
 divisorAt Timer2 select = getD timer2Divisors select 0
 
+-- the timer's mode number
 unfoldable pub modeOf : Timer → ℕ
 modeOf t = modeAt (t .config .wide) (t .registers .tccra) (t .registers .tccrb)
 
@@ -95,9 +105,11 @@ modeOf t = modeAt (t .config .wide) (t .registers .tccra) (t .registers .tccrb)
 unfoldable pub waveOf : Timer → ℕ → Wave
 waveOf t mode = record { kind = kindAt (t .config .wide) mode; source = sourceAt (t .config .wide) mode; fixed = fixedAt (t .config .wide) mode; max = maxAt (t .config .wide); icr = t .registers .icr; a = t .config .a .present; b = t .config .b .present; c = t .config .c .present }
 
+-- the timer's divisor: clock select is bits 2:0 of TCCRnB
 unfoldable pub divisorOf : Timer → ℕ
 divisorOf t = divisorAt (t .config .clocks) (t .registers .tccrb % 8)
 
+-- the timer's prescaler
 abbrev pub prescalerOf : Timer → Prescaler
 prescalerOf t = record { origin = t .clock .origin; divisor = divisorOf t }
 

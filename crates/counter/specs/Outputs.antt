@@ -18,6 +18,7 @@ use Rattle.counter.specs.declared.setting.Setting.{Setting}
 use Rattle.counter.specs.declared.state.Drives.{Drives}
 use Rattle.counter.specs.Modes.{F}
 
+-- 1 for true
 abbrev pub bit : Bool → ℕ
 bit true = 1
 bit false = 0
@@ -32,6 +33,7 @@ pub record Outs : Type 0 where
   pub drives : Drives
   pub log : List Entry
 
+-- the drives with one channel's recorded
 abbrev pub driveTo : Drives → ℕ → ℕ → ℕ → Drives
 driveTo d ch enable value = record { enables = set (d .enables) ch enable; values = set (d .values) ch value }
 
@@ -47,6 +49,7 @@ unfoldable pub onPin : Wire → ℕ → ℕ → Outs → Outs
 onPin (Pin p) ch enable o = recorded p ch enable (getD (o .oc) ch 0) o
 onPin Absent ch enable o = o
 
+-- the channel's drive: its enable and its level
 abbrev pub applied : Channel → ℕ → Outs → Outs
 applied c ch o = onPin (c .wire) ch (bit (c .enabled)) o
 
@@ -76,9 +79,11 @@ matches s e o =
     (matched (s .wave .kind) (s .b) 1 (e .b) (e .rises)
     (matched (s .wave .kind) (s .a) 0 (e .a) (e .rises) o))
 
+-- the BOTTOM outputs A, B, C
 unfoldable pub bottoms : Setting → Outs → Outs
 bottoms s o = bottomed (s .c) 2 (bottomed (s .b) 1 (bottomed (s .a) 0 o))
 
+-- all outputs of a tick: the matches, then in F at TOP the BOTTOM outputs
 unfoldable pub outputs : Setting → Events → Outs → Outs
 outputs s e o = cond (e .bottom) (bottoms s (matches s e o)) (matches s e o)
 

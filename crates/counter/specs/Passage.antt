@@ -2,7 +2,7 @@
 use Prim.Native.Nat.{ℕ, zero, suc, _+_, _-_, _<_, _≤_, _^_, max}
 use mathlib.Core.Path.{_≡_}
 use mathlib.Core.Bool.{Bool, true, false, cond}
-use mathlib.Core.List.{List, [], _∷_, _++_}
+use mathlib.Core.List.{List, [], _++_}
 use lib.ListN.{length, take, drop}
 use lib.Dec.{leb}
 use Rattle.records.specs.Records.{recordsOf}
@@ -75,6 +75,7 @@ events s p fits n r = skips n s p fits n r
 unfoldable pub due : Timer → ℕ → ℕ
 due t cycle = cond (runningOf t) (ticksAt (prescalerOf t) cycle - ticksAt (prescalerOf t) (t .clock .sync .0)) 0
 
+-- a run begins at the sync cycle
 unfoldable pub start : Timer → Run
 start t = record { moving = movingOf t; at = ticksAt (prescalerOf t) (t .clock .sync .0); bytes = []; paused = false }
 
@@ -103,6 +104,7 @@ pub record Passed : Type 0 where
   pub bytes : List ℕ
   pub paused : Bool
 
+-- a run put back into the timer
 unfoldable pub passed : Timer → ℕ → Run → Passed
 passed t cycle r = record { timer = syncTo (settle t (r .moving)) (syncOf t cycle r); bytes = r .bytes; paused = r .paused }
 

@@ -14,6 +14,7 @@ use Rattle.counter.specs.Modes.{C, modeOf, waveOf, togglesAt}
 unfoldable pub enabledAt : ℕ → ℕ → Bool → Bool
 enabledAt comx kind toggles = cond (eqb comx 0) false (cond (eqb comx 1) (leb kind C || toggles) true)
 
+-- a compare unit as its COM field and the mode have it
 unfoldable pub channelOf : Compare → ℕ → ℕ → Bool → Channel
 channelOf unit comx kind toggles = record { comx = comx; enabled = enabledAt comx kind toggles; wire = unit .wire; flag = unit .flag }
 

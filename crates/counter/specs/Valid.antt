@@ -16,6 +16,7 @@ use Rattle.counter.specs.Modes.{maxAt}
 abbrev pub Turns : ℤ → Type 0
 Turns d = (d ≡ pos 1) ⊎ (d ≡ negsuc 0)
 
+-- the only premise of a call: numbers in range, and origin ≤ sync ≤ latest; asleep since a cycle between origin and latest
 pub record Valid (t : Timer) : Type 0 where
   pub accepted : accepted (t .config) ≡ true
   pub count : t .counter .count ≤ maxAt (t .config .wide)

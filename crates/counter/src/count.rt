@@ -23,7 +23,7 @@ ghost use lib.ListN.{length};
 ghost use lib.Seq.{sets};
 ghost use Prim.Native.Nat.{_+_, _-_, _<_, _≤_};
 ghost use Rattle.records.specs.Records.{recordsOf};
-ghost use Rattle.counter.specs.Count.{negative, topOf, falls, hits, overflows, loads, nextCount, nextDirection, eventsAt, raised, raises, line, lines, flagEntry, triggerEntry, flagLog, tick, Worked};
+ghost use Rattle.counter.specs.Count.{negative, topOf, falls, hits, overflows, loads, nextCount, nextDirection, eventsAt, raised, line, lines, flagEntry, triggerEntry, flagLog, tick, Worked};
 ghost use Rattle.counter.specs.Modes.{P};
 ghost use Rattle.counter.specs.Valid.{Turns, Sound};
 

@@ -11,7 +11,7 @@ ghost use mathlib.Core.Bool.{cond};
 ghost use Prim.Native.Nat.{_+_, _-_, _<_, _≤_, min};
 ghost use Rattle.counter.specs.Count.{falls};
 ghost use Rattle.counter.specs.Distance.{space, ahead, gap, moved, linear, nextOf};
-ghost use Rattle.counter.specs.Valid.{Turns, Steady, Valid};
+ghost use Rattle.counter.specs.Valid.{Steady, Valid};
 
 // The next event's cycle, or none where the counter does not run.
 pub enum Next {

@@ -12,7 +12,7 @@ use config::Wire;
 use records::Entry;
 ghost use mathlib.Core.Path.{_≡_};
 ghost use Prim.Native.Nat.{_+_, _<_, _≤_};
-ghost use lib.ListN.{length, set};
+ghost use lib.ListN.{length};
 ghost use Rattle.counter.specs.Outputs.{bit, pinEntry, driveTo, levelOf, recorded, applied, acted, matched, bottomed, matches, bottoms, outputs, outsOf, begun, Wrote};
 
 // The outputs on their way through a call: levels, drives last recorded, and the place of the next record.

@@ -33,12 +33,14 @@ unfoldable pub numberOf : List ℕ → ℕ
 numberOf [] = 0
 numberOf (b ∷ bs) = b * 256 ^ length bs + numberOf bs
 
--- what ten bytes say: the kind, the cycle and the body
+-- the kind in ten bytes
 unfoldable pub kindIn : List ℕ → ℕ
 kindIn bytes = numberOf (take 8 bytes) / 2 ^ 62
 
+-- the cycle in ten bytes
 unfoldable pub cycleIn : List ℕ → ℕ
 cycleIn bytes = numberOf (take 8 bytes) % 2 ^ 62
 
+-- the body in ten bytes
 unfoldable pub bodyIn : List ℕ → ℕ
 bodyIn bytes = numberOf (drop 8 bytes)
