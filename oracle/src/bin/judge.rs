@@ -3,7 +3,7 @@
 use std::io;
 
 use oracle::judge::{Follow, Judge};
-use oracle::script::session;
+use oracle::script::play;
 
 fn main() -> io::Result<()> {
     let arguments: Vec<String> = std::env::args().skip(1).collect();
@@ -20,5 +20,5 @@ fn main() -> io::Result<()> {
             std::process::exit(2)
         }
     };
-    session::serve(judge)
+    play::serve(judge)
 }

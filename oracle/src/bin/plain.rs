@@ -5,7 +5,7 @@ use std::{env, io, process};
 
 use oracle::plain::bends::Bend;
 use oracle::plain::Plain;
-use oracle::script::session;
+use oracle::script::play;
 
 fn main() -> io::Result<()> {
     let arguments: Vec<String> = env::args().skip(1).collect();
@@ -18,7 +18,7 @@ fn main() -> io::Result<()> {
         }
         _ => usage(),
     };
-    session::serve(Plain::new(bend))
+    play::serve(Plain::new(bend))
 }
 
 fn usage() -> ! {

@@ -10,8 +10,8 @@ use crate::generate;
 use crate::judge::{Follow, Judge};
 use crate::plain::bends::Bend;
 use crate::plain::Plain;
-use crate::script::session::read_line;
-use crate::script::{Command, Session};
+use crate::script::play::read_line;
+use crate::script::{Command, Play};
 use figures::Figures;
 
 /// Calls of one random script: `generate SEED 300` shows the script of a seed.
@@ -31,11 +31,11 @@ pub fn script(seed: u64) -> Option<Vec<String>> {
 
 /// Answers a script by the judge, following the sheet.
 pub fn judged(lines: &[String], figures: &mut Figures) -> Vec<Option<String>> {
-    let mut session = Session::new(Judge::new(Follow::Sheet));
+    let mut play = Play::new(Judge::new(Follow::Sheet));
     let mut answers = Vec::with_capacity(lines.len());
     for line in lines {
-        let answer = session.answer(line.as_bytes());
-        figures.count(line, answer.as_deref().unwrap_or_default(), &session.side);
+        let answer = play.answer(line.as_bytes());
+        figures.count(line, answer.as_deref().unwrap_or_default(), &play.side);
         answers.push(answer);
     }
     answers
@@ -43,9 +43,9 @@ pub fn judged(lines: &[String], figures: &mut Figures) -> Vec<Option<String>> {
 
 /// The first line on which the plain counter, bent or not, differs from the judge.
 pub fn clash(lines: &[String], judged: &[Option<String>], bend: Option<Bend>) -> Option<Clash> {
-    let mut session = Session::new(Plain::new(bend));
+    let mut play = Play::new(Plain::new(bend));
     for (line, judge) in judged.iter().enumerate() {
-        let plain = session.answer(lines[line].as_bytes());
+        let plain = play.answer(lines[line].as_bytes());
         if plain != *judge {
             let text = |answer: &Option<String>| answer.clone().unwrap_or_default();
             return Some(Clash { line, judge: text(judge), plain: text(&plain) });

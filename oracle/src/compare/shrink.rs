@@ -3,8 +3,8 @@
 use super::{clash, Clash};
 use crate::judge::{Follow, Judge};
 use crate::plain::bends::Bend;
-use crate::script::session::read_line;
-use crate::script::{Call, Command, Session};
+use crate::script::play::read_line;
+use crate::script::{Call, Command, Play};
 
 /// Without a stop that was dropped, an advance may ask for more ticks than can be worked. No other call
 /// passes the next event.
@@ -38,15 +38,15 @@ fn shown(lines: &[String], bend: Option<Bend>) -> Option<Clash> {
 
 /// The judge's answers, unless an advance goes too far.
 fn judged(lines: &[String]) -> Option<Vec<Option<String>>> {
-    let mut session = Session::new(Judge::new(Follow::Sheet));
+    let mut play = Play::new(Judge::new(Follow::Sheet));
     let mut answers = Vec::new();
     for line in lines {
         if let Ok(Some(Command::Call { call: Call::Advance, cycle, .. })) = read_line(line.as_bytes()) {
-            if cycle < 1 << 62 && session.side.ticks_to(cycle) > MOST_TICKS {
+            if cycle < 1 << 62 && play.side.ticks_to(cycle) > MOST_TICKS {
                 return None;
             }
         }
-        answers.push(session.answer(line.as_bytes()));
+        answers.push(play.answer(line.as_bytes()));
     }
     Some(answers)
 }

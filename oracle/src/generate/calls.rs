@@ -41,7 +41,7 @@ impl Generator {
 
     /// Ends the words with a cycle and an area, and shows the state after the call.
     fn call(&mut self, words: &str, reach: Reach) {
-        let (cycle, area) = match self.session.side.view() {
+        let (cycle, area) = match self.play.side.view() {
             Some(view) => (cycles::cycle(&mut self.rng, &view, reach), cycles::area(&mut self.rng)),
             None => (self.rng.below(100), 110),
         };
@@ -67,7 +67,7 @@ impl Generator {
 
     fn write_control(&mut self) {
         let c = self.config();
-        let view = self.session.side.view().expect("a move is made on a timer");
+        let view = self.play.side.view().expect("a move is made on a timer");
         let (a, b) = values::controls(&mut self.rng, &view);
         match self.rng.below(10) {
             0..=3 => self.call(&format!("write {:X} {a:X}", c.tccra), Reach::Before),
@@ -87,7 +87,7 @@ impl Generator {
     fn write_count(&mut self) {
         let counted = self.counted();
         let address = self.rng.pick(&counted);
-        let view = self.session.side.view().expect("a move is made on a timer");
+        let view = self.play.side.view().expect("a move is made on a timer");
         let value = values::count(&mut self.rng, &view);
         if view.config.wide && self.rng.percent(85) {
             self.call(&format!("write {:X} {:X}", address + 1, value >> 8), Reach::Past);

@@ -9,24 +9,24 @@ mod rng;
 mod values;
 
 use crate::judge::{Follow, Judge, View};
-use crate::script::Session;
+use crate::script::Play;
 use rng::Rng;
 
 struct Generator {
     rng: Rng,
-    session: Session<Judge>,
+    play: Play<Judge>,
     lines: Vec<String>,
     calls: usize,
 }
 
 impl Generator {
     fn view(&self) -> Option<View<'_>> {
-        self.session.side.view()
+        self.play.side.view()
     }
 
     /// Adds a line and lets the judge work it. `state` and configurations are not calls.
     fn say(&mut self, line: String) {
-        self.session.answer(line.as_bytes());
+        self.play.answer(line.as_bytes());
         if !["state", "config", "preset"].iter().any(|w| line.starts_with(w)) {
             self.calls += 1;
         }
@@ -55,8 +55,8 @@ impl Generator {
 
 /// A script of at least so many calls, with `state` after every one on the timer.
 pub fn script(seed: u64, calls: usize) -> Vec<String> {
-    let session = Session::new(Judge::new(Follow::Sheet));
-    let mut generator = Generator { rng: Rng::new(seed), session, lines: Vec::new(), calls: 0 };
+    let play = Play::new(Judge::new(Follow::Sheet));
+    let mut generator = Generator { rng: Rng::new(seed), play, lines: Vec::new(), calls: 0 };
     if generator.rng.percent(97) {
         generator.configure();
     }

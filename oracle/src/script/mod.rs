@@ -1,4 +1,4 @@
-//! The bench script: what a line says, what is answered, and the session that keeps both together. It is
+//! The bench script: what a line says, what is answered, and the play that keeps both together. It is
 //! the only part that the judge and the plain counter share, and it knows nothing of how a timer works.
 
 pub mod answer;
@@ -6,11 +6,11 @@ pub mod command;
 pub mod config;
 pub mod pin;
 pub mod presets;
-pub mod session;
+pub mod play;
 pub mod words;
 
 pub use answer::{Answer, State};
 pub use command::{Call, Command, Sched};
 pub use config::{ClockTable, CompareC, Config, Layout};
 pub use pin::{Ext, PinLine};
-pub use session::{Session, Side};
+pub use play::{Play, Side};

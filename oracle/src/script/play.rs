@@ -23,12 +23,12 @@ pub trait Side {
     fn sched(&mut self, sched: Sched) -> Answer;
 }
 
-pub struct Session<S> {
+pub struct Play<S> {
     pub side: S,
     lines: usize,
 }
 
-impl<S: Side> Session<S> {
+impl<S: Side> Play<S> {
     pub fn new(side: S) -> Self {
         Self { side, lines: 0 }
     }
@@ -79,10 +79,10 @@ pub fn read_line(line: &[u8]) -> Result<Option<Command>, Why> {
 
 /// Answers standard input on standard output.
 pub fn serve(side: impl Side) -> io::Result<()> {
-    let mut session = Session::new(side);
+    let mut play = Play::new(side);
     let mut out = io::BufWriter::new(io::stdout().lock());
     for line in io::stdin().lock().split(b'\n') {
-        if let Some(answer) = session.answer(&line?) {
+        if let Some(answer) = play.answer(&line?) {
             writeln!(out, "{answer}")?;
         }
     }
