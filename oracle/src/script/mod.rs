@@ -5,8 +5,8 @@ pub mod answer;
 pub mod command;
 pub mod config;
 pub mod pin;
-pub mod presets;
 pub mod play;
+pub mod presets;
 pub mod words;
 
 pub use answer::{Answer, State};
