@@ -128,3 +128,20 @@ least = record { id = 0; wide = false; layout = Bare; tccra = 0; tccrb = 0; foc 
 pub least-accepted : accepted least ≡ true
 unfolding accepted widthRule layoutRule compareRule addressRule controls owned flagRule flagged oneBit flagsOf pinRule pinsOf also has distinct within
 least-accepted = refl
+
+-- the place of a register of two bytes, low or high, if the address is one of them, else another place
+unfoldable pub pairAt : Config → Bool → ℕ → ℕ → ℕ → ℕ → ℕ
+pairAt c present low address place other = cond (present && eqb address low) place (cond (present && c .wide && eqb address (low + 1)) (place + 1) other)
+
+-- the place of a control or force register; 13 where there is none
+unfoldable pub controlAt : Config → ℕ → ℕ
+controlAt c address = cond (eqb address (c .tccra)) 10 (cond (eqb address (c .tccrb)) 11 (cond (eqb address (c .foc)) 12 13))
+
+-- the register at an address: TCNTn 0 and 1 (low and high byte), OCRnA 2 and 3, OCRnB 4 and 5, OCRnC 6 and 7, ICRn 8 and 9, TCCRnA or TCCRn 10, TCCRnB 11, a force register of its own 12; 13 where there is none (01, number 4)
+unfoldable pub placeOf : Config → ℕ → ℕ
+placeOf c address =
+    pairAt c true (c .tcnt) address 0
+    (pairAt c (c .a .present) (c .a .address) address 2
+    (pairAt c (c .b .present) (c .b .address) address 4
+    (pairAt c (c .c .present) (c .c .address) address 6
+    (pairAt c (c .icr .present) (c .icr .address) address 8 (controlAt c address)))))

@@ -6,7 +6,7 @@ use crate::few::Few;
 ghost use mathlib.Core.Path.{_≡_};
 ghost use Prim.Native.Nat.{_+_, _<_, _≤_};
 ghost use Rattle.config.specs.Few.{held};
-ghost use Rattle.config.specs.Config.{split, bare, wired, pinOf, oneBit, flagged, controls, owned, flagsOf, pinsOf, widthRule, layoutRule, compareRule, addressRule, flagRule, pinRule, accepted, register, pinned, least};
+ghost use Rattle.config.specs.Config.{split, bare, wired, pinOf, oneBit, flagged, controls, owned, flagsOf, pinsOf, widthRule, layoutRule, compareRule, addressRule, flagRule, pinRule, accepted, register, pinned, least, pairAt, controlAt, placeOf};
 
 // Where the control bits stand: TCCRnA and TCCRnB, one TCCRn, or one TCCRn without WGM.
 pub enum Layout {
@@ -347,5 +347,55 @@ impl Config {
             & self.keeps_addresses()
             & self.keeps_flags()
             & self.keeps_pins()
+    }
+}
+
+impl Config {
+    // The place of a register of two bytes, low or high, if the address is one of them, else another place.
+    fn pair(self, present: bool, low: u16, address: u16, place: u8, other: u8) -> u8
+        requires { ⌜ place < 255 ⌝ }
+        ensures { λ r. ⌜ r ≡ pairAt self present low address place other ⌝ }
+    {
+        let at = address as u32;
+        let first = low as u32;
+        if present & (at == first) {
+            place
+        } else if present & self.wide & (at == first + 1) {
+            place + 1
+        } else {
+            other
+        }
+    }
+
+    // The place of a control or force register, 13 where there is none.
+    fn control(self, address: u16) -> u8
+        ensures { λ r. ⌜ r ≡ controlAt self address ⌝ }
+    {
+        if address == self.tccra {
+            10
+        } else if address == self.tccrb {
+            11
+        } else if address == self.foc {
+            12
+        } else {
+            13
+        }
+    }
+
+    // The register at an address: TCNTn 0 and 1 (low and high byte), OCRnA 2 and 3, OCRnB 4 and 5, OCRnC 6 and 7, ICRn 8 and 9,
+    // TCCRnA or TCCRn 10, TCCRnB 11, a force register of its own 12; 13 where there is none.
+    pub fn place(self, address: u16) -> u8
+        ensures { λ r. ⌜ r ≡ placeOf self address ⌝ }
+    {
+        let a = self.a;
+        let b = self.b;
+        let c = self.c;
+        let icr = self.icr;
+        let control = self.control(address);
+        let capture = self.pair(icr.present, icr.address, address, 8, control);
+        let third = self.pair(c.present, c.address, address, 6, capture);
+        let second = self.pair(b.present, b.address, address, 4, third);
+        let first = self.pair(a.present, a.address, address, 2, second);
+        self.pair(true, self.tcnt, address, 0, first)
     }
 }

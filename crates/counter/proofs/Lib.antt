@@ -8,4 +8,8 @@ pub mod Steps
 pub mod Writes
 pub mod Ticks
 pub mod Advances
-pub mod Starts
+pub mod Logging
+pub mod Syncs
+pub mod Keeps
+pub mod Sizes
+pub mod Progress

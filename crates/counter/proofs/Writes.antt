@@ -18,7 +18,9 @@ use Rattle.counter.specs.declared.outputs.Outputs.{Outputs}
 use Rattle.counter.specs.declared.setting.Channel.{Channel}
 use Rattle.counter.specs.declared.setting.Setting.{Setting}
 use Rattle.counter.specs.declared.state.Drives.{Drives}
-use Rattle.counter.specs.Outputs.{Outs, bit, pinEntry, driveTo, recorded, onPin, acted, levelOf, matched, bottomed, matches, bottoms, outputs, begun, Wrote}
+use Rattle.counter.specs.Outputs.{Outs, bit, pinEntry, driveTo, recorded, onPin, applied, acted, levelOf, matched, bottomed, matches, bottoms, outputs, begun, Wrote}
+use Rattle.counter.specs.Modes.{C}
+use Rattle.counter.specs.Registers.{reapplied, strobed}
 
 -- entries written from a place of the area on: the place after them, and the area
 pub record Put (es : List Entry) (cycle at : ℕ) (before : List ℕ) (to : ℕ) (after : List ℕ) : Type 0 where
@@ -94,6 +96,17 @@ pub bottoms-appends : (s : Setting) → Appends (bottoms s)
 unfolding bottoms
 bottoms-appends s = then-appends (then-appends (bottomed-appends (s .a) 0) (bottomed-appends (s .b) 1)) (bottomed-appends (s .c) 2)
 
+pub matches-appends : (s : Setting) (e : Events) → Appends (matches s e)
+unfolding matches
+matches-appends s e =
+    then-appends
+    (then-appends (matched-appends (s .wave .kind) (s .a) 0 (e .a) (e .rises)) (matched-appends (s .wave .kind) (s .b) 1 (e .b) (e .rises)))
+    (matched-appends (s .wave .kind) (s .c) 2 (e .c) (e .rises))
+
+pub strobed-appends : (s : Setting) (e : Events) → Appends (strobed s e)
+unfolding strobed
+strobed-appends s e = record { shifts = λ l o. after-cond (leb (s .wave .kind) C) l _ _ (matches-appends s e .shifts l o) refl }
+
 -- nothing done, nothing written
 pub wrote-none : (r : Outputs) (cycle : ℕ) (l : List ℕ) → Wrote (begun r) cycle (r .to) l r l
 wrote-none r cycle l =
@@ -129,7 +142,7 @@ module _ (r : Outputs) (pin ch enable value cycle : ℕ) (l : List ℕ) where
       let k = put-one (p .0) (rw e at (p .1)) in
       rw h (record { oc = refl; drives = d; to = k .next; area = k .area })
 
--- three matches in a row, and three outputs at BOTTOM
+-- three matches in a row, three outputs at BOTTOM, and three drives reapplied
 module _ (s : Setting) (r₀ : Outputs) {cycle : ℕ} {r₁ r₂ r₃ : Outputs} {l₀ l₁ l₂ l₃ : List ℕ} where
   pub matches-wrote : (e : Events) → Wrote (matched (s .wave .kind) (s .a) 0 (e .a) (e .rises) (begun r₀)) cycle (r₀ .to) l₀ r₁ l₁
       → Wrote (matched (s .wave .kind) (s .b) 1 (e .b) (e .rises) (begun r₁)) cycle (r₁ .to) l₁ r₂ l₂
@@ -143,6 +156,12 @@ module _ (s : Setting) (r₀ : Outputs) {cycle : ℕ} {r₁ r₂ r₃ : Outputs}
       → Wrote (bottomed (s .c) 2 (begun r₂)) cycle (r₂ .to) l₂ r₃ l₃ → Wrote (bottoms s (begun r₀)) cycle (r₀ .to) l₀ r₃ l₃
   unfolding bottoms
   bottoms-wrote u v w = wrote-then (bottomed-appends (s .c) 2) (wrote-then (bottomed-appends (s .b) 1) u v) w
+
+  pub reapplied-wrote : Wrote (applied (s .a) 0 (begun r₀)) cycle (r₀ .to) l₀ r₁ l₁ → Wrote (applied (s .b) 1 (begun r₁)) cycle (r₁ .to) l₁ r₂ l₂
+      → Wrote (applied (s .c) 2 (begun r₂)) cycle (r₂ .to) l₂ r₃ l₃ → Wrote (reapplied s (begun r₀)) cycle (r₀ .to) l₀ r₃ l₃
+  unfolding reapplied
+  reapplied-wrote u v w =
+      wrote-then (on-pin-appends (s .c .wire) 2 (bit (s .c .enabled))) (wrote-then (on-pin-appends (s .b .wire) 1 (bit (s .b .enabled))) u v) w
 
 -- the outputs after a tick, at BOTTOM and elsewhere
 module _ (s : Setting) (e : Events) (o : Outs) {cycle at : ℕ} {l m : List ℕ} {q : Outputs} where

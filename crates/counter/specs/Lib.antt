@@ -9,3 +9,6 @@ pub mod Valid
 pub mod Law
 pub mod Logs
 pub mod Fresh
+pub mod Registers
+pub mod Capture
+pub mod Halts

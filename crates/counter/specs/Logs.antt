@@ -1,6 +1,6 @@
 -- What a call does to the timer beside letting time pass, with the records it makes.
 use Prim.Native.Nat.{ℕ, _≤_}
-use mathlib.Core.List.{List}
+use mathlib.Core.List.{List, []}
 use mathlib.Core.Path.{_≡_}
 use lib.ListN.{length, take}
 use Rattle.records.specs.declared.Entry.{Entry}
@@ -14,6 +14,10 @@ use Rattle.counter.specs.Setting.{settingOf, movingOf, settle}
 pub record Noted : Type 0 where
   pub timer : Timer
   pub log : List Entry
+
+-- work that makes no record
+abbrev pub silent : Timer → Noted
+silent t = record { timer = t; log = [] }
 
 -- what the code leaves of it: the timer, and the records' bytes in a log
 pub record Logs (x : Noted) (cycle : ℕ) (r : Logged) : Type 0 where

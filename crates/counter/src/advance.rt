@@ -10,8 +10,11 @@ use crate::units::Ticks;
 use records::Log;
 ghost use mathlib.Core.Path.{_≡_};
 ghost use Prim.Native.Nat.{_+_, _<_, _≤_, _^_, max};
+ghost use mathlib.Core.List.{[]};
 ghost use lib.ListN.{length};
-ghost use Rattle.counter.specs.Passage.{ticks, advanced, syncTo, Ready, Ran, Made, Finishes, Works, Advances};
+ghost use Rattle.counter.specs.Modes.{modeOf, waveOf};
+ghost use Rattle.counter.specs.Distance.{gap};
+ghost use Rattle.counter.specs.Passage.{ticks, synced, due, advanced, syncTo, Ready, Ran, Made, Finishes, Works, Advances};
 ghost use Rattle.counter.specs.Logs.{Logs, struck};
 ghost use Rattle.counter.specs.Valid.{Valid};
 
@@ -285,6 +288,27 @@ impl Timer {
             timer: t.synced(sync),
             written: w.written,
             paused: w.paused,
+        }
+    }
+
+    // The timer at a cycle that no event lies at or before: one linear step.
+    pub fn sync(self, cycle: Cycle) -> Timer
+        requires { ⌜ (Valid self) × (self .clock .latest .0 ≤ cycle .0) × (cycle .0 < 2 ^ 62) × (due self (cycle .0) ≤ gap (waveOf self (modeOf self)) (self .counter) (self .ocr)) ⌝ }
+        ensures { λ r. ⌜ (r ≡ synced ticks self (cycle .0) .timer) × (synced ticks self (cycle .0) .bytes ≡ []) × Valid r ⌝ }
+    {
+        if self.running() {
+            let clock = self.clock;
+            let sync = clock.sync;
+            let p = self.prescaler();
+            let first = p.ticks(sync);
+            let end = p.ticks(cycle);
+            let mode = self.mode();
+            let wave = self.wave_at(mode);
+            let m = self.moving();
+            let moved = m.skip(wave, (end.0 - first.0) as u32);
+            self.settled(moved).synced(cycle)
+        } else {
+            self.synced(cycle)
         }
     }
 }

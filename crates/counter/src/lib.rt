@@ -1,11 +1,15 @@
 // The timer's work, by value: each step takes the timer and gives the timer back.
 
 pub mod advance;
+pub mod capture;
 pub mod count;
 pub mod distance;
+pub mod flags;
 pub mod fresh;
+pub mod halts;
 pub mod modes;
 pub mod outputs;
+pub mod registers;
 pub mod setting;
 pub mod state;
 pub mod units;

@@ -1,7 +1,7 @@
 use mathlib.Core.Path.{sym, _∙_}
 use Rattle.config.specs.Config.{least, least-accepted}
 use Rattle.counter.specs.Fresh.{startedOf}
-use Rattle.counter.proofs.Starts.{fresh-is-valid}
+use Rattle.counter.proofs.Keeps.{fresh-is-valid}
 use borrow.Author.Needs.{needs}
 use Rattle.counter.proofs.state.Timer.new.Statement.{statement}
 use Rattle.counter.proofs.state.Timer.new.Tie as tie

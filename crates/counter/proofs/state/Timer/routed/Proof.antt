@@ -1,0 +1,11 @@
+use Rattle.counter.specs.Halts.{routedTo}
+use borrow.Author.Needs.{needs}
+use Rattle.counter.proofs.state.Timer.routed.Statement.{statement}
+use Rattle.counter.proofs.state.Timer.routed.Tie as tie
+
+returns : tie.Need-returns
+unfolding routedTo
+returns c = c .with-halts .ensures
+
+pub routed-spec : {M : Type 1} → statement M
+routed-spec = tie.close (tie.spec (λ c κs. search needs) returns)

@@ -1,0 +1,41 @@
+-- Input capture, and edges of the T pin (01, "Registers and capture").
+use Prim.Native.Nat.{ℕ, _/_, _%_}
+use mathlib.Core.Bool.{Bool, true, false, not, _&&_, _||_}
+use lib.Bits.{bitOr}
+use lib.Dec.{eqb}
+use Rattle.config.specs.declared.Clocks.{Clocks}
+use Rattle.config.specs.declared.Clocks.the-variants.{Sync, Timer2}
+use Rattle.counter.specs.declared.count.Events.{Events}
+use Rattle.counter.specs.declared.state.Timer.{Timer}
+use Rattle.counter.specs.Count.{raised, flagLog}
+use Rattle.counter.specs.Logs.{Noted}
+use Rattle.counter.specs.Modes.{I, modeOf, sourceAt, heldOf}
+use Rattle.counter.specs.Registers.{icrTo}
+use Rattle.counter.specs.Setting.{settingOf}
+
+-- a capture needs an ICR that is not TOP, and the level chosen by TCCRnB bit 6
+unfoldable pub captures : Timer → ℕ → Bool
+captures t level = t .config .icr .present && not (eqb (sourceAt (t .config .wide) (modeOf t)) I) && eqb level (t .registers .tccrb / 64 % 2)
+
+-- a capture alone happens
+abbrev pub capture : Events
+capture = record { a = false; b = false; c = false; top = false; zero = false; overflow = false; capture = true; load = false; bottom = false; rises = false }
+
+abbrev pub flagsTo : Timer → ℕ → ℕ → Timer
+flagsTo t tifr timsk = record { config = t .config; counter = t .counter; ocr = t .ocr; buffer = t .buffer; oc = t .oc; drives = t .drives; registers = t .registers; flags = record { tifr = tifr; timsk = timsk }; clock = t .clock; halts = t .halts }
+
+-- it copies TCNT, then raises ICF
+unfoldable pub captured : Timer → Noted
+captured t = record {
+  timer = flagsTo (icrTo t (t .counter .count)) (bitOr (t .flags .tifr) (raised (settingOf t) capture)) (t .flags .timsk);
+  log = flagLog (settingOf t) capture (raised (settingOf t) capture) (bitOr (t .flags .tifr) (raised (settingOf t) capture));
+}
+
+-- clock select 6 chooses the T pin's falling edge, 7 its rising one
+unfoldable pub chosen : Clocks → ℕ → ℕ → Bool
+chosen Sync select level = eqb select 6 && eqb level 0 || eqb select 7 && eqb level 1
+chosen Timer2 select level = false
+
+-- a chosen T edge, if nothing holds the counter, works one tick
+unfoldable pub ticksOn : Timer → ℕ → Bool
+ticksOn t level = chosen (t .config .clocks) (t .registers .tccrb % 8) level && not (heldOf t)

@@ -1,0 +1,83 @@
+// Input capture, and edges of the T pin.
+
+use crate::advance::Logged;
+use crate::count::Events;
+use crate::modes::ICR;
+use crate::state::Flags;
+use crate::state::Timer;
+use crate::units::Cycle;
+use config::Clocks;
+use records::Log;
+ghost use mathlib.Core.Path.{_≡_};
+ghost use Rattle.counter.specs.Capture.{capture, captures, captured, ticksOn};
+ghost use Rattle.counter.specs.Logs.{Logs};
+
+// The capture of a call, alone.
+pub fn capture() -> Events
+    ensures { λ r. ⌜ r ≡ capture ⌝ }
+{
+    Events {
+        a: false,
+        b: false,
+        c: false,
+        top: false,
+        zero: false,
+        overflow: false,
+        capture: true,
+        load: false,
+        bottom: false,
+        rises: false,
+    }
+}
+
+impl Timer {
+    // Does an edge to a level capture: there is an ICR that is not TOP, and TCCRnB bit 6 chooses the level.
+    pub fn captures(self, level: u8) -> bool
+        ensures { λ r. ⌜ r ≡ captures self level ⌝ }
+    {
+        let config = self.config;
+        let icr = config.icr;
+        let registers = self.registers;
+        let source = Self::source_at(config.wide, self.mode());
+        icr.present & (source != ICR) & (level == registers.tccrb / 64 % 2)
+    }
+
+    // ICRn takes TCNTn, then ICF is raised, with its records.
+    pub fn captured(self, cycle: Cycle) -> Logged
+        ensures { λ r. ⌜ Logs (captured self) (cycle .0) r ⌝ }
+    {
+        let mode = self.mode();
+        let wave = self.wave_at(mode);
+        let s = self.setting(mode, wave);
+        let counter = self.counter;
+        let was = self.flags;
+        let e = capture();
+        let up = s.raised(e);
+        let tifr = was.tifr | up;
+        let mut bytes = [0u8; 110];
+        let to = s.put_flags(e, up, tifr, &mut bytes, 0, cycle);
+        let flags = Flags {
+            tifr,
+            timsk: was.timsk,
+        };
+        let mut t = self.with_icr(counter.count);
+        t.flags = flags;
+        let log = Log { bytes, len: to };
+        Logged { timer: t, log }
+    }
+
+    // Does an edge of the T pin to a level tick: the clock select chooses the level, and nothing holds the counter.
+    pub fn ticks_on(self, level: u8) -> bool
+        ensures { λ r. ⌜ r ≡ ticksOn self level ⌝ }
+    {
+        let config = self.config;
+        let registers = self.registers;
+        let clocks = config.clocks;
+        let chosen = registers.tccrb % 8;
+        match clocks {
+            Clocks::Sync => (((chosen == 6) & (level == 0)) | ((chosen == 7) & (level == 1)))
+                & !self.held(),
+            Clocks::Timer2 => false,
+        }
+    }
+}

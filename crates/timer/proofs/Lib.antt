@@ -1,0 +1,11 @@
+pub mod Accepted
+pub mod Timely
+pub mod Keeps
+pub mod Outcomes
+pub mod Alike
+pub mod Quiet
+pub mod Held
+pub mod Progress
+pub mod Origin
+pub mod Histories
+pub mod Readings

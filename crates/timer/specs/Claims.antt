@@ -1,0 +1,125 @@
+-- What is claimed of the timer: the demands as theorems. Proofs stand apart, in proofs/.
+use Prim.Native.Nat.{ℕ, suc, _+_, _-_, _≤_, _<_}
+use mathlib.Core.Bool.{Bool, true, false, _||_}
+use mathlib.Core.List.{List, [], _∷_}
+use mathlib.Core.Path.{_≡_}
+use lib.Dec.{eqb}
+use lib.ListN.{length}
+use Rattle.config.specs.declared.Config.{Config}
+use Rattle.config.specs.Config.{accepted}
+use Rattle.counter.specs.declared.state.Timer.{Timer}
+use Rattle.counter.specs.Count.{tick}
+use Rattle.counter.specs.Distance.{gap, linear, nextAt}
+use Rattle.counter.specs.Fresh.{freshOf}
+use Rattle.counter.specs.Modes.{modeOf, waveOf, runningOf}
+use Rattle.counter.specs.Passage.{Passage, ticks, events}
+use Rattle.counter.specs.Setting.{settingOf, movingOf}
+use Rattle.counter.specs.Valid.{Valid}
+use Rattle.timer.specs.declared.calls.Call.{Call}
+use Rattle.timer.specs.declared.calls.Call.the-variants as call
+use Rattle.timer.specs.declared.answers.Outcome.{Outcome}
+use Rattle.timer.specs.Answers.{Told, Tells, numberOf, valuesOf}
+use Rattle.timer.specs.Calls.{answered, placed, prescales, refusalOf}
+
+-- a call with its cycle and its area
+pub record Request : Type 0 where
+  pub call : Call
+  pub cycle : ℕ
+  pub area : List ℕ
+
+-- a request answered, by a passage of time
+abbrev pub told : Passage → Timer → Request → Told
+told p t q = answered p t (q .call) (q .cycle) (q .area)
+
+-- the outcomes of a list of requests, each on the timer as the last one left it; every outcome has the whole timer after it
+unfoldable pub outcomes : Passage → Timer → List Request → List Told
+outcomes p t [] = []
+outcomes p t (q ∷ qs) = told p t q ∷ outcomes p (told p t q .timer) qs
+
+-- the timer after a list of requests
+unfoldable pub last : Passage → Timer → List Request → Timer
+last p t [] = t
+last p t (q ∷ qs) = last p (told p t q .timer) qs
+
+-- what the code's outcome and the area after it say, in 01's terms
+abbrev pub heard : Outcome → List ℕ → Told
+heard r after = record { timer = r .timer; number = numberOf (r .answer); values = valuesOf (r .answer); written = r .written; area = after }
+
+-- Demand 1, what the calls keep: every call leaves a valid timer valid (the fresh timer of an accepted configuration is: `FreshIsValid` of counter)
+abbrev pub CallKeeps : Type 0
+CallKeeps = (t : Timer) (q : Request) → Valid t → Valid (told ticks t q .timer)
+
+-- Demand 3. Alike: for every accepted configuration and every list of calls, refused ones among them, the counter that skips and the plain
+-- counter give the same outcomes (refusal or answer, value, bytes, paused cycle, records in order, every area byte) and the same timer
+pub record Same (t : Timer) (qs : List Request) : Type 0 where
+  pub outcomes : outcomes events t qs ≡ outcomes ticks t qs
+  pub last : last events t qs ≡ last ticks t qs
+
+abbrev pub Alike : Type 0
+Alike = (c : Config) → accepted c ≡ true → (qs : List Request) → Same (freshOf c) qs
+
+-- a history of the public functions: each on the timer as the one before gave it back, each with its promise
+pub data History : Timer → List Request → List Told → Timer → Type 0 where
+  nothing : (t : Timer) → History t [] [] t
+  called : (t : Timer) (q : Request) (r : Outcome) (after : List ℕ) (qs : List Request) (xs : List Told) (u : Timer) → Tells (told ticks t q) r after → History (r .timer) qs xs u → History t (q ∷ qs) (heard r after ∷ xs) u
+
+-- The code is that run: what a history of the public functions gave is what the counter that skips gives, outcome by outcome
+pub record Heard (c : Config) (qs : List Request) (xs : List Told) (u : Timer) : Type 0 where
+  pub outcomes : xs ≡ outcomes events (freshOf c) qs
+  pub last : u ≡ last events (freshOf c) qs
+
+abbrev pub CodeIsRun : Type 0
+CodeIsRun = (c : Config) → accepted c ≡ true → (qs : List Request) (xs : List Told) (u : Timer) → History (freshOf c) qs xs u → Heard c qs xs u
+
+-- Held: after any list, a counter held by sleep, power reduction or TSM has its count moved only by a TCNT write or a reset
+unfoldable pub setsCount : Timer → Call → Bool
+setsCount t (call.Write address value) = eqb (placed t address) 0
+setsCount t call.Reset = true
+setsCount t call.Advance = false
+setsCount t call.Next = false
+setsCount t (call.Read address) = false
+setsCount t (call.Peek address) = false
+setsCount t call.Tifr = false
+setsCount t call.Timsk = false
+setsCount t (call.WriteTifr ones) = false
+setsCount t (call.WriteTimsk mask) = false
+setsCount t (call.Edge pin level) = false
+setsCount t (call.Output level) = false
+setsCount t (call.Route level) = false
+setsCount t (call.Sleep mode) = false
+setsCount t call.Wake = false
+setsCount t (call.Reduce mask) = false
+setsCount t (call.Tsm level) = false
+setsCount t (call.Prescale mask) = false
+
+abbrev pub Held : Type 0
+Held = (c : Config) → accepted c ≡ true → (qs : List Request) (q : Request) → let t = last ticks (freshOf c) qs in
+    t .halts .asleep || t .halts .reduced || t .halts .tsm ≡ true → setsCount t (q .call) ≡ false → told ticks t q .timer .counter .count ≡ t .counter .count
+
+-- Quiet: after any list, a prescaled tick before the announced next event only steps the count and lifts a blocked match
+abbrev pub Quiet : Type 0
+Quiet = (c : Config) → accepted c ≡ true → (qs : List Request) (n : ℕ) → let t = last ticks (freshOf c) qs in
+    let w = waveOf t (modeOf t) in
+    n < gap w (t .counter) (t .ocr) → tick (settingOf t) (linear w n (movingOf t)) ≡ record { moving = linear w (suc n) (movingOf t); log = [] }
+
+-- Progress: an area of 110 bytes always gets one event tick done
+abbrev pub Progress : Type 0
+Progress = (c : Config) → accepted c ≡ true → (qs : List Request) (cycle : ℕ) (area : List ℕ) → let t = last ticks (freshOf c) qs in
+    runningOf t ≡ true → refusalOf t call.Advance cycle ≡ 0 → nextAt t ≤ cycle → 110 ≤ length area
+    → nextAt t ≤ told ticks t (record { call = call.Advance; cycle = cycle; area = area }) .timer .clock .sync .0
+
+-- Origin: an accepted reset, own prescaler reset or TSM release makes its cycle the origin of the ticks, and a wake adds the cycles that its sleep halted
+abbrev pub taken : Timer → Call → ℕ → List ℕ → Type 0
+taken t c cycle area = answered ticks t c cycle area .number ≡ 0
+
+abbrev pub originAfter : Timer → Call → ℕ → List ℕ → ℕ
+originAfter t c cycle area = answered ticks t c cycle area .timer .clock .origin .0
+
+pub record Origins (t : Timer) (cycle : ℕ) (area : List ℕ) : Type 0 where
+  pub reset : taken t call.Reset cycle area → originAfter t call.Reset cycle area ≡ cycle
+  pub prescale : (mask : ℕ) → prescales t mask ≡ true → taken t (call.Prescale mask) cycle area → originAfter t (call.Prescale mask) cycle area ≡ cycle
+  pub release : t .halts .tsm ≡ true → taken t (call.Tsm 0) cycle area → originAfter t (call.Tsm 0) cycle area ≡ cycle
+  pub wake : t .halts .asleep ≡ true → taken t call.Wake cycle area → originAfter t call.Wake cycle area ≡ t .clock .origin .0 + (cycle - t .halts .since .0)
+
+abbrev pub Origin : Type 0
+Origin = (t : Timer) (cycle : ℕ) (area : List ℕ) → Origins t cycle area

@@ -1,0 +1,5 @@
+pub mod Answers
+pub mod Refusals
+pub mod Calls
+pub mod Claims
+pub mod Readings

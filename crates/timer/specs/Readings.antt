@@ -1,0 +1,189 @@
+-- The readings T1 to T10 on the bench (01, "Readings on the bench"): for each the timer, the calls, and what they must answer.
+use Prim.Native.Nat.{ℕ}
+use mathlib.Core.Bool.{Bool, true, false}
+use mathlib.Core.List.{List, [], _∷_, _++_}
+use mathlib.Core.Path.{_≡_}
+use lib.ListN.{take, replicate}
+use Rattle.config.specs.declared.Capture.{Capture}
+use Rattle.config.specs.declared.Clocks.the-variants.{Sync}
+use Rattle.config.specs.declared.Compare.{Compare}
+use Rattle.config.specs.declared.Config.{Config}
+use Rattle.config.specs.declared.Layout.the-variants.{Split}
+use Rattle.config.specs.declared.Wire.the-variants.{Pin, Absent}
+use Rattle.counter.specs.declared.distance.Next.the-variants.{At, Never}
+use Rattle.counter.specs.declared.state.Timer.{Timer}
+use Rattle.counter.specs.Fresh.{freshOf}
+use Rattle.counter.specs.Passage.{ticks}
+use Rattle.timer.specs.declared.calls.Call.{Call}
+use Rattle.timer.specs.declared.calls.Call.the-variants.{Advance, Next, Peek, Write, Edge, Tifr, Sleep, Wake}
+use Rattle.timer.specs.Answers.{Values, none, byte, event, Told}
+use Rattle.timer.specs.Calls.{answered}
+
+-- an ATmega328P compare unit, and no such unit
+abbrev pub compare : ℕ → ℕ → ℕ → ℕ → Compare
+compare address flag force pin = record { present = true; address = address; flag = flag; force = force; wire = Pin pin }
+
+abbrev pub noCompare : Compare
+noCompare = record { present = false; address = 0; flag = 0; force = 0; wire = Absent }
+
+-- Timer0 and Timer1 of the ATmega328P, in the 28-pin DIP
+abbrev pub timer0 : Config
+timer0 = record {
+  id = 0;
+  wide = false;
+  layout = Split;
+  tccra = 0x44;
+  tccrb = 0x45;
+  foc = 0x45;
+  tcnt = 0x46;
+  a = compare 0x47 2 0x80 12;
+  b = compare 0x48 4 0x40 11;
+  c = noCompare;
+  icr = record { present = false; address = 0; flag = 0; wire = Absent };
+  tov = 1;
+  t = Pin 6;
+  clocks = Sync;
+  group = 1;
+  prr = 0x20;
+  sleeprun = 0;
+}
+
+abbrev pub timer1 : Config
+timer1 = record {
+  id = 1;
+  wide = true;
+  layout = Split;
+  tccra = 0x80;
+  tccrb = 0x81;
+  foc = 0x82;
+  tcnt = 0x84;
+  a = compare 0x88 2 0x80 15;
+  b = compare 0x8A 4 0x40 16;
+  c = noCompare;
+  icr = record { present = true; address = 0x86; flag = 0x20; wire = Pin 14 };
+  tov = 1;
+  t = Pin 11;
+  clocks = Sync;
+  group = 1;
+  prr = 8;
+  sleeprun = 0;
+}
+
+-- a call at a cycle, the number, the values and the bytes that it must answer
+pub record Step : Type 0 where
+  pub call : Call
+  pub cycle : ℕ
+  pub number : ℕ
+  pub values : Values
+  pub bytes : List ℕ
+
+-- what an outcome says of a step
+abbrev pub shown : Step → Told → Step
+shown s x = record { call = s .call; cycle = s .cycle; number = x .number; values = x .values; bytes = take (x .written) (x .area) }
+
+-- the steps as the plain counter answers them, each with an area of 110 bytes
+unfoldable pub played : Timer → List Step → List Step
+played t [] = []
+played t (s ∷ ss) = shown s (answered ticks t (s .call) (s .cycle) (replicate 110 0)) ∷ played (answered ticks t (s .call) (s .cycle) (replicate 110 0) .timer) ss
+
+-- a register write, a count read, the next event, and an advance without and with records
+abbrev pub sets : ℕ → ℕ → ℕ → Step
+sets address value cycle = record { call = Write address value; cycle = cycle; number = 0; values = none; bytes = [] }
+
+abbrev pub reads : ℕ → ℕ → ℕ → Step
+reads address cycle value = record { call = Peek address; cycle = cycle; number = 0; values = byte value; bytes = [] }
+
+abbrev pub announces : ℕ → ℕ → Step
+announces cycle next = record { call = Next; cycle = cycle; number = 0; values = event (At (record { 0 = next })); bytes = [] }
+
+abbrev pub reaches : ℕ → List ℕ → Step
+reaches cycle bytes = record { call = Advance; cycle = cycle; number = 0; values = none; bytes = bytes }
+
+-- records of timer 0 at a cycle below 2^16: flags with no line high, and a trigger
+abbrev pub flags : ℕ → ℕ → ℕ → List ℕ
+flags high low raised = 0x40 ∷ 0 ∷ 0 ∷ 0 ∷ 0 ∷ 0 ∷ high ∷ low ∷ raised ∷ 0 ∷ []
+
+abbrev pub trigger : ℕ → ℕ → ℕ → List ℕ
+trigger high low k = 0x80 ∷ 0 ∷ 0 ∷ 0 ∷ 0 ∷ 0 ∷ high ∷ low ∷ k ∷ 0 ∷ []
+
+-- A is flag 2 and trigger 1, B flag 4 and trigger 2, TOV flag 1 and trigger 3
+abbrev pub matchA : ℕ → ℕ → List ℕ
+matchA high low = flags high low 2 ++ trigger high low 0x10
+
+abbrev pub matchB : ℕ → ℕ → List ℕ
+matchB high low = flags high low 4 ++ trigger high low 0x20
+
+abbrev pub overflow : ℕ → ℕ → List ℕ
+overflow high low = flags high low 1 ++ trigger high low 0x30
+
+pub record Reading : Type 0 where
+  pub timer : Config
+  pub steps : List Step
+
+-- CTC with OCR0A 124 and OCR0B 200 at /64
+abbrev pub ctc : List Step
+ctc = sets 0x44 0x02 0 ∷ sets 0x47 124 0 ∷ sets 0x48 200 0 ∷ sets 0x45 0x03 0 ∷ []
+
+-- T1 to T10
+abbrev pub readings : List Reading
+readings =
+    record {
+      timer = timer0;
+      steps =
+          sets 0x45 0x01 0 ∷ announces 0 1 ∷ reaches 1 (flags 0 1 6 ++ trigger 0 1 0x10 ++ trigger 0 1 0x20) ∷ announces 1 256 ∷ [];
+    }
+    ∷ record { timer = timer0; steps = ctc ++ (announces 0 8000 ∷ reaches 8000 (matchA 0x1F 0x40) ∷ announces 8000 16000 ∷ []) }
+    ∷ record { timer = timer0; steps = ctc ++ (sets 0x46 124 0 ∷ announces 0 64 ∷ reaches 64 [] ∷ reads 0x46 64 0 ∷ announces 64 8064 ∷ []) }
+    ∷ record {
+      timer = timer0;
+      steps =
+          sets 0x44 0x02 0 ∷ sets 0x47 10 0 ∷ sets 0x48 200 0 ∷ sets 0x46 11 0 ∷ sets 0x45 0x01 0
+          ∷ announces 0 190 ∷ reaches 190 (matchB 0 190) ∷ announces 190 245 ∷ reaches 245 (overflow 0 245) ∷ announces 245 256 ∷ reaches 256 (matchA 1 0) ∷ [];
+    }
+    ∷ record {
+      timer = timer0;
+      steps =
+          sets 0x47 100 0 ∷ sets 0x48 255 0 ∷ sets 0x44 0x01 0 ∷ sets 0x45 0x01 0
+          ∷ reaches 101 (matchA 0 101) ∷ reaches 256 (matchB 1 0) ∷ reaches 411 (matchA 1 155) ∷ reaches 511 (overflow 1 255) ∷ [];
+    }
+    ∷ record {
+      timer = timer0;
+      steps =
+          sets 0x47 0 0 ∷ sets 0x48 200 0 ∷ sets 0x44 0x01 0 ∷ sets 0x45 0x09 0
+          ∷ reaches 1 (matchA 0 1) ∷ reaches 2 (flags 0 2 3 ++ trigger 0 2 0x10 ++ trigger 0 2 0x30) ∷ [];
+    }
+    ∷ record {
+      timer = timer0;
+      steps =
+          sets 0x47 100 0 ∷ sets 0x48 255 0 ∷ sets 0x44 0x01 0 ∷ sets 0x45 0x01 0
+          ∷ reaches 300 (matchA 0 101 ++ matchB 1 0) ∷ reads 0x46 300 210 ∷ sets 0x44 0x00 300 ∷ reads 0x46 320 230 ∷ announces 320 346 ∷ [];
+    }
+    ∷ record {
+      timer = timer1;
+      steps =
+          sets 0x89 0x3D 0 ∷ sets 0x88 0x08 0 ∷ sets 0x8B 0xFF 0 ∷ sets 0x8A 0xFF 0 ∷ sets 0x81 0x0D 0 ∷ announces 0 16000000 ∷ [];
+    }
+    ∷ record {
+      timer = timer1;
+      steps =
+          sets 0x89 0xFF 0 ∷ sets 0x88 0xFF 0 ∷ sets 0x8B 0xFF 0 ∷ sets 0x8A 0xFF 0 ∷ sets 0x81 0x42 0
+          ∷ record { call = Edge 14 1; cycle = 1003; number = 0; values = none; bytes = (0x40 ∷ 0 ∷ 0 ∷ 0 ∷ 0 ∷ 0 ∷ 3 ∷ 0xEB ∷ 0x20 ∷ 0 ∷ []) ++ (0x80 ∷ 0 ∷ 0 ∷ 0 ∷ 0 ∷ 0 ∷ 3 ∷ 0xEB ∷ 0x40 ∷ 0x10 ∷ []) }
+          ∷ reads 0x86 1003 125 ∷ record { call = Edge 14 0; cycle = 1003; number = 0; values = none; bytes = [] } ∷ reads 0x86 1003 125
+          ∷ record { call = Tifr; cycle = 1003; number = 0; values = byte 0x20; bytes = [] } ∷ [];
+    }
+    ∷ record {
+      timer = timer0;
+      steps =
+          sets 0x47 200 0 ∷ sets 0x48 200 0 ∷ sets 0x45 0x03 0 ∷ record { call = Sleep 2; cycle = 100; number = 0; values = none; bytes = [] }
+          ∷ record { call = Wake; cycle = 1000; number = 0; values = none; bytes = [] } ∷ reads 0x46 1000 1 ∷ announces 1000 13764 ∷ [];
+    }
+    ∷ []
+
+-- every reading, as the plain counter plays it
+unfoldable pub replayed : List Reading → List Reading
+replayed [] = []
+replayed (r ∷ rs) = record { timer = r .timer; steps = played (freshOf (r .timer)) (r .steps) } ∷ replayed rs
+
+-- Readings: the plain counter answers T1 to T10 as the bench does, by one claim over the list
+abbrev pub Readings : Type 0
+Readings = replayed readings ≡ readings
