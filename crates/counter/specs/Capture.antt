@@ -21,6 +21,7 @@ captures t level = t .config .icr .present && not (eqb (sourceAt (t .config .wid
 abbrev pub capture : Events
 capture = record { a = false; b = false; c = false; top = false; zero = false; overflow = false; capture = true; load = false; bottom = false; rises = false }
 
+-- the timer with other flags
 abbrev pub flagsTo : Timer → ℕ → ℕ → Timer
 flagsTo t tifr timsk = record { config = t .config; counter = t .counter; ocr = t .ocr; buffer = t .buffer; oc = t .oc; drives = t .drives; registers = t .registers; flags = record { tifr = tifr; timsk = timsk }; clock = t .clock; halts = t .halts }
 

@@ -14,9 +14,11 @@ use Rattle.counter.specs.Registers.{driven}
 
 -- ---- parts of the timer put back
 
+-- the timer with other halts
 abbrev pub haltsTo : Timer → Halts → Timer
 haltsTo t h = record { config = t .config; counter = t .counter; ocr = t .ocr; buffer = t .buffer; oc = t .oc; drives = t .drives; registers = t .registers; flags = t .flags; clock = t .clock; halts = h }
 
+-- the timer with another clock
 abbrev pub clockTo : Timer → Clock → Timer
 clockTo t k = record { config = t .config; counter = t .counter; ocr = t .ocr; buffer = t .buffer; oc = t .oc; drives = t .drives; registers = t .registers; flags = t .flags; clock = k; halts = t .halts }
 
@@ -28,6 +30,7 @@ latestTo t cycle = clockTo t (record { sync = t .clock .sync; origin = t .clock 
 unfoldable pub halting : Timer → ℕ → Bool
 halting t m = not (eqb m 0) && eqb (bitAnd (t .config .sleeprun) (getD (1 ∷ 2 ∷ 4 ∷ 8 ∷ 16 ∷ 32 ∷ 64 ∷ 128 ∷ []) m 0)) 0
 
+-- a halting sleep, from its cycle on
 unfoldable pub asleepAt : Timer → ℕ → Timer
 asleepAt t cycle = haltsTo t (record { asleep = true; since = record { 0 = cycle }; reduced = t .halts .reduced; tsm = t .halts .tsm; routed = t .halts .routed })
 
@@ -37,6 +40,7 @@ awakeAt t cycle =
     clockTo (haltsTo t (record { asleep = false; since = t .halts .since; reduced = t .halts .reduced; tsm = t .halts .tsm; routed = t .halts .routed }))
     (record { sync = record { 0 = cycle }; origin = record { 0 = t .clock .origin .0 + (cycle - t .halts .since .0) }; latest = t .clock .latest })
 
+-- power reduction on or off
 unfoldable pub reducedTo : Timer → Bool → Timer
 reducedTo t on = haltsTo t (record { asleep = t .halts .asleep; since = t .halts .since; reduced = on; tsm = t .halts .tsm; routed = t .halts .routed })
 
@@ -50,6 +54,7 @@ tsmTo t on cycle =
     let h = haltsTo t (record { asleep = t .halts .asleep; since = t .halts .since; reduced = t .halts .reduced; tsm = on; routed = t .halts .routed }) in
     cond on h (prescaledAt h cycle)
 
+-- the comparator's output feeds the capture, or does not
 unfoldable pub routedTo : Timer → Bool → Timer
 routedTo t on = haltsTo t (record { asleep = t .halts .asleep; since = t .halts .since; reduced = t .halts .reduced; tsm = t .halts .tsm; routed = on })
 

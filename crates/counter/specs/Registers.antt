@@ -20,12 +20,15 @@ use Rattle.counter.specs.Setting.{settingOf, movingOf}
 
 -- ---- parts of the timer put back
 
+-- the timer with other registers
 abbrev pub registersTo : Timer → Registers → Timer
 registersTo t r = record { config = t .config; counter = t .counter; ocr = t .ocr; buffer = t .buffer; oc = t .oc; drives = t .drives; registers = r; flags = t .flags; clock = t .clock; halts = t .halts }
 
+-- the timer with other active and buffered compares
 abbrev pub comparesTo : Timer → List ℕ → List ℕ → Timer
 comparesTo t ocr buffer = record { config = t .config; counter = t .counter; ocr = ocr; buffer = buffer; oc = t .oc; drives = t .drives; registers = t .registers; flags = t .flags; clock = t .clock; halts = t .halts }
 
+-- the timer with other levels and drives
 abbrev pub outsTo : Timer → Outs → Timer
 outsTo t o = record { config = t .config; counter = t .counter; ocr = t .ocr; buffer = t .buffer; oc = o .oc; drives = o .drives; registers = t .registers; flags = t .flags; clock = t .clock; halts = t .halts }
 
@@ -89,6 +92,7 @@ readTimer t place = cond (leb place 9 && not (eqb (place % 2) 1) && t .config .w
 unfoldable pub committed : Timer → ℕ → ℕ
 committed t v = cond (t .config .wide) (t .registers .temp * 256 + v) v
 
+-- a low byte written, by the register's place
 unfoldable pub commit : Timer → ℕ → ℕ → Timer
 commit t place v =
     cond (leb place 1) (countTo t (committed t v))
@@ -96,10 +100,11 @@ commit t place v =
     (cond (leb place 5) (compareTo t 1 (committed t v))
     (cond (leb place 7) (compareTo t 2 (committed t v)) (icrTo t (committed t v)))))
 
--- a control write stores, which takes the new clock, and copies all buffered compares to the active ones if the mode is now N or C
+-- a control write stores, which takes the new clock
 unfoldable pub stored : Timer → ℕ → ℕ → Timer
 stored t a b = registersTo t (record { tccra = a; tccrb = b; icr = t .registers .icr; temp = t .registers .temp })
 
+-- then all buffered compares become the active ones if the mode is now N or C
 unfoldable pub configured : Timer → ℕ → ℕ → Timer
 configured t a b = comparesTo (stored t a b) (cond (immediate (stored t a b)) (t .buffer) (t .ocr)) (t .buffer)
 
@@ -119,6 +124,7 @@ strobed s e o = cond (leb (s .wave .kind) C) (matches s e o) o
 unfoldable pub drivenBy : Timer → Bool → ℕ → Outs
 drivenBy t again v = strobed (settingOf t) (forcedBy (t .config) v) (cond again (reapplied (settingOf t) (outsOf (movingOf t))) (outsOf (movingOf t)))
 
+-- the timer and the records after its drives and a strobe
 unfoldable pub driven : Timer → Bool → ℕ → Noted
 driven t again v = record { timer = outsTo t (drivenBy t again v); log = drivenBy t again v .log }
 
@@ -136,11 +142,13 @@ storedB c v = cond (c .wide) (bitAnd v 0xDF) (bitAnd v 0x0F)
 unfoldable pub strobes : Config → ℕ → ℕ → ℕ
 strobes c address v = cond (eqb (c .foc) address && not (bare (c .layout))) v 0
 
+-- TCCRnA written, or TCCRn of a single layout: store, compares, drives, strobe
 unfoldable pub writtenA : Timer → ℕ → Noted
 writtenA t v =
     driven (configured t (storedA (t .config) (t .config .layout) v) (cond (split (t .config .layout)) (t .registers .tccrb) (v % 8)))
     true (strobes (t .config) (t .config .tccra) v)
 
+-- TCCRnB written: store, compares, drives, strobe
 unfoldable pub writtenB : Timer → ℕ → Noted
 writtenB t v = driven (configured t (t .registers .tccra) (storedB (t .config) v)) true (strobes (t .config) (t .config .tccrb) v)
 

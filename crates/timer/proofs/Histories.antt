@@ -1,12 +1,12 @@
 -- A history of the public functions is the run of its calls.
-use mathlib.Core.Path.{_≡_, refl, sym, ap, _∙_}
-use mathlib.Core.List.{List, _∷_}
+use mathlib.Core.Path.{_≡_, refl, sym, _∙_}
+use mathlib.Core.List.{List}
 use Prim.Native.Nat.{ℕ}
 use Rattle.counter.specs.declared.state.Timer.{Timer}
 use Rattle.counter.specs.Passage.{ticks}
 use Rattle.timer.specs.declared.answers.Outcome.{Outcome}
 use Rattle.timer.specs.Answers.{Told, Tells}
-use Rattle.timer.specs.Claims.{Request, told, heard, outcomes, last, History, nothing, called, CodeIsRun}
+use Rattle.timer.specs.Claims.{Request, heard, outcomes, last, History, nothing, called, CodeIsRun}
 use Rattle.timer.proofs.Alike.{alike}
 
 heard-is : {x : Told} {r : Outcome} {after : List ℕ} → Tells x r after → heard r after ≡ x

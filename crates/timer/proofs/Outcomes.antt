@@ -29,10 +29,10 @@ use Rattle.timer.specs.declared.answers.Answer.the-variants as answer
 use Rattle.timer.specs.declared.answers.Outcome.{Outcome}
 use Rattle.timer.specs.declared.calls.Call.{Call}
 use Rattle.timer.specs.declared.calls.Call.the-variants as call
-use Rattle.timer.specs.Answers.{Told, none, turned, fitted, numberOf, valuesOf, Tells, Filed}
+use Rattle.timer.specs.Answers.{Told, none, fitted, numberOf, valuesOf, Tells, Filed}
 use Rattle.timer.specs.Refusals.{isDue, late, refusal}
 use Rattle.timer.specs.Calls.{placed, reduces, changes, prescales, edgeCaptures, outputCaptures, asks, works, says, before, worked, moved, performed, refusalOf, answered}
-use Rattle.timer.proofs.Accepted.{Accepted, call-accepted}
+use Rattle.timer.proofs.Accepted.{call-accepted}
 use Rattle.timer.proofs.Keeps.{call-keeps}
 
 -- ---- tests

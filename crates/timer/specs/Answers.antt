@@ -1,9 +1,9 @@
 -- What a call answers, in 01's terms.
-use Prim.Native.Nat.{ℕ, _≤_}
-use mathlib.Core.Bool.{Bool, true, false, cond}
-use mathlib.Core.List.{List, [], _++_}
+use Prim.Native.Nat.{ℕ}
+use mathlib.Core.Bool.{cond}
+use mathlib.Core.List.{List, _++_}
 use mathlib.Core.Path.{_≡_}
-use lib.Dec.{leb, eqb}
+use lib.Dec.{leb}
 use lib.ListN.{length, take, drop}
 use Rattle.counter.specs.declared.advance.Logged.{Logged}
 use Rattle.counter.specs.declared.distance.Next.{Next}
@@ -41,7 +41,7 @@ given t v bytes area = record { timer = t; number = 0; values = v; written = len
 abbrev pub fitted : Timer → Timer → Values → List ℕ → List ℕ → Told
 fitted was t v bytes area = cond (leb (length bytes) (length area)) (given t v bytes area) (turned 8 was area)
 
--- 01's number of each case of the code's answer, and its values
+-- 01's number of each case of the code's answer
 abbrev pub numberOf : Answer → ℕ
 numberOf (answer.Refused n) = n
 numberOf answer.Done = 0
@@ -49,6 +49,7 @@ numberOf (answer.Value v) = 0
 numberOf (answer.Next n) = 0
 numberOf (answer.Paused c) = 0
 
+-- the values of each case of the code's answer
 abbrev pub valuesOf : Answer → Values
 valuesOf (answer.Refused n) = none
 valuesOf answer.Done = none

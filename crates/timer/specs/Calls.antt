@@ -27,6 +27,7 @@ use Rattle.timer.specs.Refusals.{refusal}
 abbrev pub placed : Timer → ℕ → ℕ
 placed t address = placeOf (t .config) address
 
+-- a pin is the one wired
 abbrev pub isPin : Wire → ℕ → Bool
 isPin (Pin p) pin = eqb p pin
 isPin Absent pin = false
@@ -72,6 +73,7 @@ pub record Asks : Type 0 where
   -- it is the advance
   pub advances : Bool
 
+-- a call that is not the advance
 abbrev pub asking : Bool → Bool → Bool → Bool → Bool → Asks
 asking absent wrong tested halted syncs = record { absent = absent; wrong = wrong; tested = tested; halted = halted; syncs = syncs; advances = false }
 
@@ -155,6 +157,7 @@ worked x was c cycle area =
 unfoldable pub moved : Passed → List ℕ → Told
 moved x area = given (x .timer) (cond (x .paused) (paused (x .timer .clock .sync .0)) none) (x .bytes) area
 
+-- the advance, or any other call
 unfoldable pub performed : Passage → Timer → Call → ℕ → List ℕ → Told
 performed p t c cycle area =
     cond (asks t c .advances) (moved (advanced p t cycle (length area)) area) (worked (before p t (asks t c .syncs) cycle) t c cycle area)

@@ -55,6 +55,7 @@ pub record Same (t : Timer) (qs : List Request) : Type 0 where
   pub outcomes : outcomes events t qs ≡ outcomes ticks t qs
   pub last : last events t qs ≡ last ticks t qs
 
+-- one theorem over the list
 abbrev pub Alike : Type 0
 Alike = (c : Config) → accepted c ≡ true → (qs : List Request) → Same (freshOf c) qs
 
@@ -68,6 +69,7 @@ pub record Heard (c : Config) (qs : List Request) (xs : List Told) (u : Timer) :
   pub outcomes : xs ≡ outcomes events (freshOf c) qs
   pub last : u ≡ last events (freshOf c) qs
 
+-- for every history from a fresh timer
 abbrev pub CodeIsRun : Type 0
 CodeIsRun = (c : Config) → accepted c ≡ true → (qs : List Request) (xs : List Told) (u : Timer) → History (freshOf c) qs xs u → Heard c qs xs u
 
@@ -92,6 +94,7 @@ setsCount t (call.Reduce mask) = false
 setsCount t (call.Tsm level) = false
 setsCount t (call.Prescale mask) = false
 
+-- by no other call, whatever its arguments
 abbrev pub Held : Type 0
 Held = (c : Config) → accepted c ≡ true → (qs : List Request) (q : Request) → let t = last ticks (freshOf c) qs in
     t .halts .asleep || t .halts .reduced || t .halts .tsm ≡ true → setsCount t (q .call) ≡ false → told ticks t q .timer .counter .count ≡ t .counter .count
@@ -112,14 +115,17 @@ Progress = (c : Config) → accepted c ≡ true → (qs : List Request) (cycle :
 abbrev pub taken : Timer → Call → ℕ → List ℕ → Type 0
 taken t c cycle area = answered ticks t c cycle area .number ≡ 0
 
+-- the origin after the call
 abbrev pub originAfter : Timer → Call → ℕ → List ℕ → ℕ
 originAfter t c cycle area = answered ticks t c cycle area .timer .clock .origin .0
 
+-- the four calls that move it
 pub record Origins (t : Timer) (cycle : ℕ) (area : List ℕ) : Type 0 where
   pub reset : taken t call.Reset cycle area → originAfter t call.Reset cycle area ≡ cycle
   pub prescale : (mask : ℕ) → prescales t mask ≡ true → taken t (call.Prescale mask) cycle area → originAfter t (call.Prescale mask) cycle area ≡ cycle
   pub release : t .halts .tsm ≡ true → taken t (call.Tsm 0) cycle area → originAfter t (call.Tsm 0) cycle area ≡ cycle
   pub wake : t .halts .asleep ≡ true → taken t call.Wake cycle area → originAfter t call.Wake cycle area ≡ t .clock .origin .0 + (cycle - t .halts .since .0)
 
+-- of any timer
 abbrev pub Origin : Type 0
 Origin = (t : Timer) (cycle : ℕ) (area : List ℕ) → Origins t cycle area

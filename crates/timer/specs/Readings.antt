@@ -1,16 +1,15 @@
 -- The readings T1 to T10 on the bench (01, "Readings on the bench"): for each the timer, the calls, and what they must answer.
 use Prim.Native.Nat.{ℕ}
-use mathlib.Core.Bool.{Bool, true, false}
+use mathlib.Core.Bool.{true, false}
 use mathlib.Core.List.{List, [], _∷_, _++_}
 use mathlib.Core.Path.{_≡_}
 use lib.ListN.{take, replicate}
-use Rattle.config.specs.declared.Capture.{Capture}
 use Rattle.config.specs.declared.Clocks.the-variants.{Sync}
 use Rattle.config.specs.declared.Compare.{Compare}
 use Rattle.config.specs.declared.Config.{Config}
 use Rattle.config.specs.declared.Layout.the-variants.{Split}
 use Rattle.config.specs.declared.Wire.the-variants.{Pin, Absent}
-use Rattle.counter.specs.declared.distance.Next.the-variants.{At, Never}
+use Rattle.counter.specs.declared.distance.Next.the-variants.{At}
 use Rattle.counter.specs.declared.state.Timer.{Timer}
 use Rattle.counter.specs.Fresh.{freshOf}
 use Rattle.counter.specs.Passage.{ticks}
@@ -19,14 +18,15 @@ use Rattle.timer.specs.declared.calls.Call.the-variants.{Advance, Next, 
 use Rattle.timer.specs.Answers.{Values, none, byte, event, Told}
 use Rattle.timer.specs.Calls.{answered}
 
--- an ATmega328P compare unit, and no such unit
+-- a compare unit of the ATmega328P
 abbrev pub compare : ℕ → ℕ → ℕ → ℕ → Compare
 compare address flag force pin = record { present = true; address = address; flag = flag; force = force; wire = Pin pin }
 
+-- no such unit
 abbrev pub noCompare : Compare
 noCompare = record { present = false; address = 0; flag = 0; force = 0; wire = Absent }
 
--- Timer0 and Timer1 of the ATmega328P, in the 28-pin DIP
+-- Timer0 of the ATmega328P, in the 28-pin DIP
 abbrev pub timer0 : Config
 timer0 = record {
   id = 0;
@@ -48,6 +48,7 @@ timer0 = record {
   sleeprun = 0;
 }
 
+-- Timer1 of the ATmega328P
 abbrev pub timer1 : Config
 timer1 = record {
   id = 1;
@@ -86,36 +87,43 @@ unfoldable pub played : Timer → List Step → List Step
 played t [] = []
 played t (s ∷ ss) = shown s (answered ticks t (s .call) (s .cycle) (replicate 110 0)) ∷ played (answered ticks t (s .call) (s .cycle) (replicate 110 0) .timer) ss
 
--- a register write, a count read, the next event, and an advance without and with records
+-- a register written
 abbrev pub sets : ℕ → ℕ → ℕ → Step
 sets address value cycle = record { call = Write address value; cycle = cycle; number = 0; values = none; bytes = [] }
 
+-- a register peeked
 abbrev pub reads : ℕ → ℕ → ℕ → Step
 reads address cycle value = record { call = Peek address; cycle = cycle; number = 0; values = byte value; bytes = [] }
 
+-- the next event asked for
 abbrev pub announces : ℕ → ℕ → Step
 announces cycle next = record { call = Next; cycle = cycle; number = 0; values = event (At (record { 0 = next })); bytes = [] }
 
+-- an advance that gets there, with its records
 abbrev pub reaches : ℕ → List ℕ → Step
 reaches cycle bytes = record { call = Advance; cycle = cycle; number = 0; values = none; bytes = bytes }
 
--- records of timer 0 at a cycle below 2^16: flags with no line high, and a trigger
+-- flags of timer 0 raised at a cycle below 2^16, with no line high
 abbrev pub flags : ℕ → ℕ → ℕ → List ℕ
 flags high low raised = 0x40 ∷ 0 ∷ 0 ∷ 0 ∷ 0 ∷ 0 ∷ high ∷ low ∷ raised ∷ 0 ∷ []
 
+-- a trigger of timer 0
 abbrev pub trigger : ℕ → ℕ → ℕ → List ℕ
 trigger high low k = 0x80 ∷ 0 ∷ 0 ∷ 0 ∷ 0 ∷ 0 ∷ high ∷ low ∷ k ∷ 0 ∷ []
 
--- A is flag 2 and trigger 1, B flag 4 and trigger 2, TOV flag 1 and trigger 3
+-- A is flag 2 and trigger 1
 abbrev pub matchA : ℕ → ℕ → List ℕ
 matchA high low = flags high low 2 ++ trigger high low 0x10
 
+-- B is flag 4 and trigger 2
 abbrev pub matchB : ℕ → ℕ → List ℕ
 matchB high low = flags high low 4 ++ trigger high low 0x20
 
+-- TOV is flag 1 and trigger 3
 abbrev pub overflow : ℕ → ℕ → List ℕ
 overflow high low = flags high low 1 ++ trigger high low 0x30
 
+-- a timer and its steps
 pub record Reading : Type 0 where
   pub timer : Config
   pub steps : List Step

@@ -1,4 +1,3 @@
-use Rattle.timer.specs.Calls.{answered}
 use borrow.Author.Needs.{needs}
 use Rattle.timer.proofs.call.Statement.{statement}
 use Rattle.timer.proofs.call.Tie as tie

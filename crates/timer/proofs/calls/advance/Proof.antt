@@ -2,7 +2,7 @@ use Rattle.timer.proofs.Outcomes.{late-alone, turned-away, stopped, cam
 use Rattle.timer.proofs.Accepted.{call-accepted}
 use Rattle.timer.specs.declared.calls.Call.the-variants as call
 use Rattle.timer.specs.Calls.{asks, refusalOf}
-use mathlib.Core.Path.{refl, sym, _∙_}
+use mathlib.Core.Path.{sym, _∙_}
 use borrow.Author.Needs.{needs}
 use Rattle.timer.proofs.calls.advance.Statement.{statement}
 use Rattle.timer.proofs.calls.advance.Tie as tie

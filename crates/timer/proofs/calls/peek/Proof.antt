@@ -1,7 +1,7 @@
 use Rattle.timer.proofs.Outcomes.{turned-away, sync-asked, kept, in-time, plainly}
 use Rattle.timer.specs.declared.calls.Call.the-variants as call
 use Rattle.timer.specs.Calls.{asks, works, says, refusalOf}
-use mathlib.Core.Path.{refl, sym, ap, _∙_}
+use mathlib.Core.Path.{refl, sym, _∙_}
 use borrow.Author.Needs.{needs}
 use Rattle.timer.proofs.calls.peek.Statement.{statement}
 use Rattle.timer.proofs.calls.peek.Tie as tie

@@ -2,7 +2,7 @@ use Rattle.timer.proofs.Outcomes.{sleeps, sleeps-not, turned-away, sync
 use native.Mathlib.Nat.{mod-lt}
 use Rattle.timer.specs.declared.calls.Call.the-variants as call
 use Rattle.timer.specs.Calls.{asks, works, says, refusalOf}
-use mathlib.Core.Path.{refl, sym, ap, _∙_}
+use mathlib.Core.Path.{refl, sym, _∙_}
 use borrow.Author.Needs.{needs}
 use Rattle.timer.proofs.calls.sleep.Statement.{statement}
 use Rattle.timer.proofs.calls.sleep.Tie as tie

@@ -1,7 +1,7 @@
 use Rattle.timer.proofs.Outcomes.{wakes, wakes-not, turned-away, wake-asked, at-once, plainly}
 use Rattle.timer.specs.declared.calls.Call.the-variants as call
 use Rattle.timer.specs.Calls.{asks, works, says, refusalOf}
-use mathlib.Core.Path.{refl, sym, ap, _∙_}
+use mathlib.Core.Path.{refl, sym, _∙_}
 use borrow.Author.Needs.{needs}
 use Rattle.timer.proofs.calls.wake.Statement.{statement}
 use Rattle.timer.proofs.calls.wake.Tie as tie

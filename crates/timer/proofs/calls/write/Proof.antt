@@ -2,7 +2,7 @@ use Rattle.timer.proofs.Outcomes.{or-left, turned-away, sync-asked, kep
 use Prim.Native.Nat.{_<_}
 use Rattle.timer.specs.declared.calls.Call.the-variants as call
 use Rattle.timer.specs.Calls.{asks, works, says, refusalOf}
-use mathlib.Core.Path.{refl, sym, ap, _∙_}
+use mathlib.Core.Path.{refl, sym, _∙_}
 use borrow.Author.Needs.{needs}
 use Rattle.timer.proofs.calls.write.Statement.{statement}
 use Rattle.timer.proofs.calls.write.Tie as tie

@@ -1,6 +1,5 @@
 use Rattle.timer.specs.Refusals.{late}
 use borrow.Author.Tests.{lt-ltb, le-ltb}
-use borrow.Author.Needs.{needs}
 use Rattle.timer.proofs.refusals.late.Statement.{statement}
 use Rattle.timer.proofs.refusals.late.Tie as tie
 

@@ -1,5 +1,5 @@
 use Rattle.timer.specs.Refusals.{refusal}
-use borrow.Author.Tests.{ne-eqb, eq-eqb}
+use borrow.Author.Tests.{ne-eqb}
 use borrow.Author.Needs.{needs}
 use Rattle.timer.proofs.refusals.refusal.Statement.{statement}
 use Rattle.timer.proofs.refusals.refusal.Tie as tie
