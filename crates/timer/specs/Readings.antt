@@ -8,7 +8,8 @@ use Rattle.config.specs.declared.Clocks.the-variants.{Sync}
 use Rattle.config.specs.declared.Compare.{Compare}
 use Rattle.config.specs.declared.Config.{Config}
 use Rattle.config.specs.declared.Layout.the-variants.{Split}
-use Rattle.config.specs.declared.Wire.the-variants.{Pin, Absent}
+use Rattle.config.specs.declared.Wire.the-variants.{Pin}
+use Rattle.config.specs.Config.{noCompare, noCapture}
 use Rattle.counter.specs.declared.distance.Next.the-variants.{At}
 use Rattle.counter.specs.declared.state.Timer.{Timer}
 use Rattle.counter.specs.Fresh.{freshOf}
@@ -21,10 +22,6 @@ use Rattle.timer.specs.Calls.{answered}
 -- a compare unit of the ATmega328P
 abbrev pub compare : ℕ → ℕ → ℕ → ℕ → Compare
 compare address flag force pin = record { present = true; address = address; flag = flag; force = force; wire = Pin pin }
-
--- no such unit
-abbrev pub noCompare : Compare
-noCompare = record { present = false; address = 0; flag = 0; force = 0; wire = Absent }
 
 -- Timer0 of the ATmega328P, in the 28-pin DIP
 abbrev pub timer0 : Config
@@ -39,7 +36,7 @@ timer0 = record {
   a = compare 0x47 2 0x80 12;
   b = compare 0x48 4 0x40 11;
   c = noCompare;
-  icr = record { present = false; address = 0; flag = 0; wire = Absent };
+  icr = noCapture;
   tov = 1;
   t = Pin 6;
   clocks = Sync;
