@@ -1,33 +1,23 @@
--- Ticks and cycles: their order, the next event's bound, and the ticks due.
+-- The next event's bound, and the ticks due.
 use Prim.Native.Nat.{ℕ, _+_, _-_, _≤_, _<_, _^_}
 use native.Mathlib.Omega.{arith}
-use native.Mathlib.Nat.{add-zero, add-mul, mul-le-mul, mul-le-mul-right, div-mul-le-self, le-div-iff-mul-le, div-lt-iff-lt-mul}
+use native.Mathlib.Nat.{add-zero, add-mul, mul-le-mul, div-lt-iff-lt-mul}
 use mathlib.Core.Path.{_≡_}
 use mathlib.Core.Bool.{true}
 use borrow.Author.Tests.{ltb-true}
+use Rattle.wave.specs.declared.units.Prescaler.{Prescaler}
+use Rattle.wave.specs.Units.{ticksAt, cycleAt}
+use Rattle.wave.specs.Distance.{gap}
+use Rattle.wave.proofs.Clocks.{ticks-mono, tick-before}
+use Rattle.tick.proofs.Choices.{and-left, cond-case}
+use Rattle.tick.proofs.Bounds.{gap-max}
 use Rattle.counter.specs.declared.state.Timer.{Timer}
-use Rattle.counter.specs.declared.units.Prescaler.{Prescaler}
 use Rattle.counter.specs.Modes.{modeOf, waveOf, divisorOf, prescalerOf, runningOf}
 use Rattle.counter.specs.Setting.{settingAt, movingOf}
-use Rattle.counter.specs.Units.{ticksAt, cycleAt}
-use Rattle.counter.specs.Distance.{gap, nextAt}
+use Rattle.counter.specs.Next.{nextAt}
 use Rattle.counter.specs.Passage.{due}
 use Rattle.counter.specs.Valid.{Valid}
-use Rattle.counter.proofs.Bounds.{and-left, cond-case, divisor-max, gap-max, valid-sound}
-
--- a later cycle has no fewer ticks, and a later tick no earlier cycle
-pub ticks-mono : (p : Prescaler) (a b : ℕ) → 0 < p .divisor → a ≤ b → ticksAt p a ≤ ticksAt p b
-unfolding ticksAt
-ticks-mono p a b d h = le-div-iff-mul-le d .1 (let k = div-mul-le-self (a - p .origin .0) (p .divisor) in omega arith)
-
-pub cycle-mono : (p : Prescaler) (a b : ℕ) → a ≤ b → cycleAt p a ≤ cycleAt p b
-unfolding cycleAt
-cycle-mono p a b h = let k = mul-le-mul-right (p .divisor) h in omega arith
-
--- the last tick of a cycle is not after it
-pub tick-before : (p : Prescaler) (cycle : ℕ) → p .origin .0 ≤ cycle → cycleAt p (ticksAt p cycle) ≤ cycle
-unfolding ticksAt cycleAt
-tick-before p cycle h = let k = div-mul-le-self (cycle - p .origin .0) (p .divisor) in omega arith
+use Rattle.counter.proofs.Bounds.{divisor-max, valid-sound}
 
 -- a divisor is selected where the counter runs
 pub running-divides : (t : Timer) → runningOf t ≡ true → 0 < divisorOf t

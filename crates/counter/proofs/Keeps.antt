@@ -9,8 +9,10 @@ use lib.ListN.{getD, set}
 use lib.Dec.{eqb, leb}
 use Rattle.config.specs.declared.Config.{Config}
 use Rattle.config.specs.Config.{accepted}
+use Rattle.tick.specs.declared.setting.Drives.{Drives}
+use Rattle.tick.proofs.Choices.{cond-all}
+use Rattle.tick.proofs.Law.{tick-keeps}
 use Rattle.counter.specs.declared.state.Clock.{Clock}
-use Rattle.counter.specs.declared.state.Drives.{Drives}
 use Rattle.counter.specs.declared.state.Flags.{Flags}
 use Rattle.counter.specs.declared.state.Halts.{Halts}
 use Rattle.counter.specs.declared.state.Timer.{Timer}
@@ -23,8 +25,7 @@ use Rattle.counter.specs.Registers.{tempTo, icrTo, countTo, compareTo, i
 use Rattle.counter.specs.Capture.{flagsTo, captured}
 use Rattle.counter.specs.Fresh.{blank, clockAt, freshOf, FreshIsValid}
 use Rattle.counter.specs.Halts.{haltsTo, clockTo, latestTo, asleepAt, awakeAt, reducedTo, prescaledAt, tsmTo, routedTo, resetAt}
-use Rattle.counter.proofs.Bounds.{cond-all, valid-sound}
-use Rattle.counter.proofs.Law.{tick-keeps}
+use Rattle.counter.proofs.Bounds.{valid-sound}
 
 -- a valid timer with another clock, and with other halts
 clock-keeps : {t : Timer} {k : Clock} {h : Halts} → Valid t

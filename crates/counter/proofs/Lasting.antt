@@ -4,19 +4,24 @@ use native.Mathlib.Omega.{arith}
 use mathlib.Core.Path.{_≡_}
 use mathlib.Core.Bool.{Bool, true}
 use lib.Dec.{leb, leb·zero}
-use Rattle.counter.specs.declared.setting.Moving.{Moving}
-use Rattle.counter.specs.declared.setting.Setting.{Setting}
+use Rattle.wave.specs.declared.units.Prescaler.{Prescaler}
+use Rattle.wave.specs.Units.{ticksAt}
+use Rattle.wave.proofs.Clocks.{cycle-mono}
+use Rattle.tick.specs.declared.setting.Moving.{Moving}
+use Rattle.tick.specs.declared.setting.Setting.{Setting}
+use Rattle.tick.specs.Passage.{Run, one, ticks}
+use Rattle.tick.specs.Sound.{Sound}
+use Rattle.tick.specs.Law.{Kept}
+use Rattle.tick.proofs.Choices.{cond-all}
+use Rattle.tick.proofs.Runs.{one-all, one-keeps}
 use Rattle.counter.specs.declared.state.Timer.{Timer}
-use Rattle.counter.specs.declared.units.Prescaler.{Prescaler}
 use Rattle.counter.specs.Modes.{prescalerOf, waveOf}
 use Rattle.counter.specs.Setting.{settingOf, settingAt, settle}
-use Rattle.counter.specs.Units.{ticksAt}
-use Rattle.counter.specs.Passage.{Run, one, ticks, due, start, syncTo, syncOf, passed, advanced}
-use Rattle.counter.specs.Valid.{Valid, Sound}
-use Rattle.counter.specs.Law.{Kept, AdvanceKeeps}
-use Rattle.counter.proofs.Bounds.{cond-all}
-use Rattle.counter.proofs.Clocks.{cycle-mono, due-before}
-use Rattle.counter.proofs.Runs.{one-all, one-keeps, start-kept}
+use Rattle.counter.specs.Passage.{due, start, syncTo, syncOf, passed, advanced}
+use Rattle.counter.specs.Valid.{Valid}
+use Rattle.counter.specs.Law.{AdvanceKeeps}
+use Rattle.counter.proofs.Clocks.{due-before}
+use Rattle.counter.proofs.Runs.{start-kept}
 
 module _ (s : Setting) (p : Prescaler) (fits : ℕ → Bool) where
   ticks-keep : (n : ℕ) (r : Run) → Kept s fits r → Kept s fits (ticks s p fits n r)

@@ -11,18 +11,18 @@ use Rattle.records.specs.declared.Entry.{Entry}
 use Rattle.records.specs.declared.Log.{Log}
 use Rattle.records.specs.Records.{recordsOf}
 use Rattle.records.proofs.Records.{take-sets}
-use Rattle.counter.specs.declared.count.Events.{Events}
-use Rattle.counter.specs.declared.outputs.Outputs.{Outputs}
-use Rattle.counter.specs.declared.setting.Setting.{Setting}
+use Rattle.tick.specs.declared.events.Events.{Events}
+use Rattle.tick.specs.declared.outputs.Outputs.{Outputs}
+use Rattle.tick.specs.declared.setting.Setting.{Setting}
+use Rattle.tick.specs.Outputs.{outsOf, Wrote, reapplied, strobed}
+use Rattle.tick.specs.Tick.{raised, flagLog}
+use Rattle.tick.proofs.Writes.{Put}
+use Rattle.tick.proofs.Ticks.{Flagged}
 use Rattle.counter.specs.declared.state.Timer.{Timer}
 use Rattle.counter.specs.Setting.{settingOf, movingOf}
-use Rattle.counter.specs.Outputs.{outsOf, Wrote}
-use Rattle.counter.specs.Count.{raised, flagLog}
 use Rattle.counter.specs.Logs.{Logs, silent}
-use Rattle.counter.specs.Registers.{outsTo, icrTo, forcedBy, reapplied, strobed, drivenBy, driven}
+use Rattle.counter.specs.Registers.{outsTo, icrTo, forcedBy, drivenBy, driven}
 use Rattle.counter.specs.Capture.{capture, flagsTo, captured}
-use Rattle.counter.proofs.Writes.{Put}
-use Rattle.counter.proofs.Ticks.{Flagged}
 
 -- no record
 pub logs-none : {t r : Timer} {log : Log} (cycle : ℕ) → r ≡ t → log .len ≡ 0 → Logs (silent t) cycle (record { timer = r; log = log })

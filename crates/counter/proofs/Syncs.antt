@@ -4,18 +4,21 @@ use native.Mathlib.Omega.{arith}
 use mathlib.Core.Path.{_≡_, refl, sym, ap, _∙_}
 use mathlib.Core.Bool.{true, false}
 use mathlib.Core.List.{[]}
-use Rattle.counter.specs.declared.modes.Wave.{Wave}
-use Rattle.counter.specs.declared.setting.Moving.{Moving}
+use Rattle.wave.specs.declared.kinds.Wave.{Wave}
+use Rattle.wave.specs.declared.units.Prescaler.{Prescaler}
+use Rattle.wave.specs.Distance.{gap}
+use Rattle.tick.specs.declared.setting.Moving.{Moving}
+use Rattle.tick.specs.Skip.{linear}
+use Rattle.tick.specs.Passage.{ticks, quiet}
+use Rattle.tick.proofs.Bounds.{gap-max}
+use Rattle.tick.proofs.Law.{linear-none}
+use Rattle.tick.proofs.Runs.{quiet-ticks}
 use Rattle.counter.specs.declared.state.Timer.{Timer}
-use Rattle.counter.specs.declared.units.Prescaler.{Prescaler}
 use Rattle.counter.specs.Modes.{modeOf, waveOf, runningOf}
 use Rattle.counter.specs.Setting.{settingAt, settingOf, movingOf, settle}
-use Rattle.counter.specs.Distance.{gap, linear}
-use Rattle.counter.specs.Passage.{Passed, ticks, quiet, due, start, syncTo, syncOf, passed, synced}
+use Rattle.counter.specs.Passage.{Passed, due, start, syncTo, syncOf, passed, synced}
 use Rattle.counter.specs.Valid.{Valid}
-use Rattle.counter.proofs.Bounds.{gap-max}
-use Rattle.counter.proofs.Law.{linear-none}
-use Rattle.counter.proofs.Runs.{quiet-ticks, start-kept}
+use Rattle.counter.proofs.Runs.{start-kept}
 use Rattle.counter.proofs.Lasting.{due-keeps}
 use Rattle.counter.proofs.Advances.{Begun, begun-steady}
 

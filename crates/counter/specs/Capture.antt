@@ -5,11 +5,12 @@ use lib.Bits.{bitOr}
 use lib.Dec.{eqb}
 use Rattle.config.specs.declared.Clocks.{Clocks}
 use Rattle.config.specs.declared.Clocks.the-variants.{Sync, Timer2}
-use Rattle.counter.specs.declared.count.Events.{Events}
+use Rattle.wave.specs.Kinds.{I}
+use Rattle.tick.specs.declared.events.Events.{Events}
+use Rattle.tick.specs.Tick.{raised, flagLog}
 use Rattle.counter.specs.declared.state.Timer.{Timer}
-use Rattle.counter.specs.Count.{raised, flagLog}
 use Rattle.counter.specs.Logs.{Noted}
-use Rattle.counter.specs.Modes.{I, modeOf, sourceAt, heldOf}
+use Rattle.counter.specs.Modes.{modeOf, sourceAt, heldOf}
 use Rattle.counter.specs.Registers.{icrTo}
 use Rattle.counter.specs.Setting.{settingOf}
 

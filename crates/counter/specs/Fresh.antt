@@ -6,9 +6,9 @@ use mathlib.Core.Path.{_≡_}
 use lib.IntN.{pos}
 use Rattle.config.specs.declared.Config.{Config}
 use Rattle.config.specs.Config.{accepted, least}
+use Rattle.tick.specs.declared.setting.Drives.{Drives}
 use Rattle.counter.specs.declared.fresh.Started.{Started}
 use Rattle.counter.specs.declared.state.Clock.{Clock}
-use Rattle.counter.specs.declared.state.Drives.{Drives}
 use Rattle.counter.specs.declared.state.Flags.{Flags}
 use Rattle.counter.specs.declared.state.Timer.{Timer}
 use Rattle.counter.specs.Valid.{Valid}

@@ -1,14 +1,11 @@
-pub mod Units
 pub mod Modes
 pub mod Setting
-pub mod Outputs
-pub mod Count
-pub mod Distance
+pub mod Next
 pub mod Passage
 pub mod Valid
 pub mod Law
+pub mod Registers
 pub mod Logs
 pub mod Fresh
-pub mod Registers
 pub mod Capture
 pub mod Halts

@@ -5,9 +5,9 @@ use mathlib.Core.Path.{_≡_}
 use lib.ListN.{length, take}
 use Rattle.records.specs.declared.Entry.{Entry}
 use Rattle.records.specs.Records.{recordsOf}
+use Rattle.tick.specs.Tick.{tick}
 use Rattle.counter.specs.declared.advance.Logged.{Logged}
 use Rattle.counter.specs.declared.state.Timer.{Timer}
-use Rattle.counter.specs.Count.{tick}
 use Rattle.counter.specs.Setting.{settingOf, movingOf, settle}
 
 -- the timer after a call's work, and its entries in order

@@ -6,35 +6,10 @@ use lib.ListN.{getD}
 use lib.Dec.{eqb, ltb}
 use Rattle.config.specs.declared.Clocks.{Clocks}
 use Rattle.config.specs.declared.Clocks.the-variants.{Sync, Timer2}
-use Rattle.counter.specs.declared.modes.Wave.{Wave}
+use Rattle.wave.specs.declared.kinds.Wave.{Wave}
+use Rattle.wave.specs.declared.units.Prescaler.{Prescaler}
+use Rattle.wave.specs.Kinds.{N, C, F, P, Q, X, A, I}
 use Rattle.counter.specs.declared.state.Timer.{Timer}
-use Rattle.counter.specs.declared.units.Prescaler.{Prescaler}
-
--- kinds: normal, CTC, fast PWM, phase correct PWM, phase and frequency correct PWM
-abbrev pub N : ℕ
-N = 0
-
-abbrev pub C : ℕ
-C = 1
-
-abbrev pub F : ℕ
-F = 2
-
-abbrev pub P : ℕ
-P = 3
-
-abbrev pub Q : ℕ
-Q = 4
-
--- sources of TOP: fixed by the mode, OCRnA, ICRn
-abbrev pub X : ℕ
-X = 0
-
-abbrev pub A : ℕ
-A = 1
-
-abbrev pub I : ℕ
-I = 2
 
 -- narrow modes 0 to 7
 abbrev pub narrowKinds : List ℕ

@@ -9,13 +9,13 @@ use Rattle.config.specs.declared.Config.{Config}
 use Rattle.config.specs.declared.Layout.{Layout}
 use Rattle.config.specs.declared.Layout.the-variants.{Split, Single, Bare}
 use Rattle.config.specs.Config.{split, bare}
-use Rattle.counter.specs.declared.count.Events.{Events}
-use Rattle.counter.specs.declared.setting.Setting.{Setting}
+use Rattle.wave.specs.Kinds.{C}
+use Rattle.tick.specs.declared.events.Events.{Events}
+use Rattle.tick.specs.Outputs.{Outs, outsOf, reapplied, strobed}
 use Rattle.counter.specs.declared.state.Registers.{Registers}
 use Rattle.counter.specs.declared.state.Timer.{Timer}
 use Rattle.counter.specs.Logs.{Noted, silent}
-use Rattle.counter.specs.Modes.{C, modeOf, kindAt}
-use Rattle.counter.specs.Outputs.{Outs, applied, matches, outsOf}
+use Rattle.counter.specs.Modes.{modeOf, kindAt}
 use Rattle.counter.specs.Setting.{settingOf, movingOf}
 
 -- ---- parts of the timer put back
@@ -111,14 +111,6 @@ configured t a b = comparesTo (stored t a b) (cond (immediate (stored t a b)) (t
 -- the channels that a byte's force bits name, as matches without a flag
 abbrev pub forcedBy : Config → ℕ → Events
 forcedBy c v = record { a = not (eqb (bitAnd v (c .a .force)) 0); b = not (eqb (bitAnd v (c .b .force)) 0); c = c .c .present && not (eqb (bitAnd v (c .c .force)) 0); top = false; zero = false; overflow = false; capture = false; load = false; bottom = false; rises = false }
-
--- the drives reapplied, A, B, C
-unfoldable pub reapplied : Setting → Outs → Outs
-reapplied s o = applied (s .c) 2 (applied (s .b) 1 (applied (s .a) 0 o))
-
--- force strobes act only in N and C, without a flag
-unfoldable pub strobed : Setting → Events → Outs → Outs
-strobed s e o = cond (leb (s .wave .kind) C) (matches s e o) o
 
 -- the drives reapplied where asked, and last a force strobe
 unfoldable pub drivenBy : Timer → Bool → ℕ → Outs

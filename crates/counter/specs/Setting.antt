@@ -1,22 +1,12 @@
 -- A timer as the ticks of one call see it: what they cannot change, and what they move.
 use Prim.Native.Nat.{ℕ, _/_, _%_}
-use mathlib.Core.Bool.{Bool, true, false, cond, _||_}
-use lib.Dec.{eqb, leb}
-use Rattle.config.specs.declared.Compare.{Compare}
-use Rattle.counter.specs.declared.modes.Wave.{Wave}
-use Rattle.counter.specs.declared.setting.Channel.{Channel}
-use Rattle.counter.specs.declared.setting.Moving.{Moving}
-use Rattle.counter.specs.declared.setting.Setting.{Setting}
+use mathlib.Core.Bool.{false}
+use Rattle.wave.specs.declared.kinds.Wave.{Wave}
+use Rattle.tick.specs.declared.setting.Moving.{Moving}
+use Rattle.tick.specs.declared.setting.Setting.{Setting}
+use Rattle.tick.specs.Setting.{channelOf}
 use Rattle.counter.specs.declared.state.Timer.{Timer}
-use Rattle.counter.specs.Modes.{C, modeOf, waveOf, togglesAt}
-
--- COM 0 is off, COM 1 toggles in N and C and where channel A toggles, else it is off (01, "Outputs and pins")
-unfoldable pub enabledAt : ℕ → ℕ → Bool → Bool
-enabledAt comx kind toggles = cond (eqb comx 0) false (cond (eqb comx 1) (leb kind C || toggles) true)
-
--- a compare unit as its COM field and the mode have it
-unfoldable pub channelOf : Compare → ℕ → ℕ → Bool → Channel
-channelOf unit comx kind toggles = record { comx = comx; enabled = enabledAt comx kind toggles; wire = unit .wire; flag = unit .flag }
+use Rattle.counter.specs.Modes.{modeOf, waveOf, togglesAt}
 
 -- COM fields are bits 7:6, 5:4 and 3:2 of TCCRnA
 unfoldable pub settingAt : Timer → ℕ → Wave → Setting

@@ -1,44 +1,23 @@
 // Time passes: by events up to a cycle, or to the first tick whose records do not fit.
 
-use crate::setting::Moving;
-use crate::setting::Setting;
 use crate::state::Clock;
 use crate::state::Timer;
-use crate::units::Cycle;
-use crate::units::Prescaler;
-use crate::units::Ticks;
 use records::Log;
+use tick::run::Progress;
+use tick::setting::Moving;
+use wave::units::Cycle;
+use wave::units::Prescaler;
+use wave::units::Ticks;
+ghost use Prim.Native.Nat.{_<_, _≤_, _^_, max};
 ghost use mathlib.Core.Path.{_≡_};
-ghost use Prim.Native.Nat.{_+_, _<_, _≤_, _^_, max};
 ghost use mathlib.Core.List.{[]};
 ghost use lib.ListN.{length};
+ghost use Rattle.wave.specs.Distance.{gap};
+ghost use Rattle.tick.specs.Passage.{ticks};
 ghost use Rattle.counter.specs.Modes.{modeOf, waveOf};
-ghost use Rattle.counter.specs.Distance.{gap};
-ghost use Rattle.counter.specs.Passage.{ticks, synced, due, advanced, syncTo, Ready, Ran, Made, Finishes, Works, Advances};
+ghost use Rattle.counter.specs.Passage.{synced, due, advanced, syncTo, Works, Advances};
 ghost use Rattle.counter.specs.Logs.{Logs, struck};
 ghost use Rattle.counter.specs.Valid.{Valid};
-
-// Where a run stands: what moved, quiet ticks that lie ahead, the number of its last tick, and the place of the next record.
-pub struct Progress {
-    pub moving: Moving,
-    pub gap: u32,
-    pub at: Ticks,
-    pub to: usize,
-}
-
-// An event's tick made aside: how the run stands after it, and its records.
-pub struct Aside {
-    pub after: Progress,
-    pub log: Log,
-}
-
-// Where a run ends: at its last tick, or before the first whose records do not fit.
-pub struct Finished {
-    pub moving: Moving,
-    pub at: Ticks,
-    pub to: usize,
-    pub paused: bool,
-}
 
 // What an advance changes: no timer is copied for it.
 pub struct Work {
@@ -65,104 +44,6 @@ pub fn later(a: u64, b: u64) -> u64
     ensures { λ r. ⌜ r ≡ max a b ⌝ }
 {
     if a <= b { b } else { a }
-}
-
-impl Setting {
-    // Event by event up to a tick, while there are 110 bytes for the event's records.
-    pub fn run(self, start: Progress, end: Ticks, p: Prescaler, area: &mut [u8]) -> Progress
-        requires { ⌜ Ready self p start (end .0) (length (now area)) ⌝ }
-        ensures { λ r. ⌜ Ran self p start (end .0) (now (area .entry)) r (now (area .exit)) ⌝ }
-    {
-        let wave = self.wave;
-        let from = start.at;
-        let mut m = start.moving;
-        let mut gap = start.gap;
-        let mut at = from.0;
-        let mut to = start.to;
-        while ((gap as u64) < end.0 - at) & (110 <= area.len() - to) {
-            let near = m.skip(wave, gap);
-            let tick = at + (gap as u64) + 1;
-            let t = self.tick(near, area, to, p.cycle(Ticks(tick)));
-            m = t.moving;
-            to = t.to;
-            at = tick;
-            let counter = m.counter;
-            let ocr = m.ocr;
-            gap = wave.gap(counter, ocr);
-        }
-        Progress {
-            moving: m,
-            gap,
-            at: Ticks(at),
-            to,
-        }
-    }
-
-    // The next event's tick, its records in a log aside.
-    pub fn aside(self, start: Progress, p: Prescaler) -> Aside
-        requires { ⌜ Ready self p start (start .at .0 + (start .gap + 1)) (start .to) ⌝ }
-        ensures { λ r. ⌜ Made self p start r ⌝ }
-    {
-        let mut bytes = [0u8; 110];
-        let at = start.at;
-        let moving = start.moving;
-        let begin = Progress {
-            moving,
-            gap: start.gap,
-            at,
-            to: 0,
-        };
-        let after = self.run(begin, Ticks(at.0 + ((start.gap as u64) + 1)), p, &mut bytes);
-        let log = Log {
-            bytes,
-            len: after.to,
-        };
-        Aside { after, log }
-    }
-
-    // The events near the area's end: each is made aside first, and written if it fits. Then the quiet ticks that are left.
-    pub fn finish(self, start: Progress, end: Ticks, p: Prescaler, area: &mut [u8]) -> Finished
-        requires { ⌜ Ready self p start (end .0) (length (now area)) ⌝ }
-        ensures { λ r. ⌜ Finishes self p start (end .0) (now (area .entry)) r (now (area .exit)) ⌝ }
-    {
-        let wave = self.wave;
-        let first = start.at;
-        let mut r = start;
-        let mut at = first.0;
-        while (r.gap as u64) < end.0 - at {
-            let to = r.to;
-            let gap = r.gap;
-            let next = self.aside(r, p);
-            let log = next.log;
-            let after = next.after;
-            let moving = after.moving;
-            if log.write(area, to) {
-                let tick = after.at;
-                at = tick.0;
-                r = Progress {
-                    moving,
-                    gap: after.gap,
-                    at: tick,
-                    to: to + log.len,
-                };
-            } else {
-                let m = r.moving;
-                return Finished {
-                    moving: m.skip(wave, gap),
-                    at: Ticks(at + (gap as u64)),
-                    to,
-                    paused: true,
-                };
-            }
-        }
-        let m = r.moving;
-        Finished {
-            moving: m.skip(wave, (end.0 - at) as u32),
-            at: end,
-            to: r.to,
-            paused: false,
-        }
-    }
 }
 
 impl Timer {

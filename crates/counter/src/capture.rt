@@ -1,13 +1,13 @@
 // Input capture, and edges of the T pin.
 
 use crate::advance::Logged;
-use crate::count::Events;
-use crate::modes::ICR;
 use crate::state::Flags;
 use crate::state::Timer;
-use crate::units::Cycle;
 use config::Clocks;
 use records::Log;
+use tick::events::Events;
+use wave::kinds::ICR;
+use wave::units::Cycle;
 ghost use mathlib.Core.Path.{_≡_};
 ghost use Rattle.counter.specs.Capture.{capture, captures, captured, ticksOn};
 ghost use Rattle.counter.specs.Logs.{Logs};

@@ -2,8 +2,8 @@
 
 use crate::state::Flags;
 use crate::state::Timer;
-ghost use mathlib.Core.Path.{_≡_};
 ghost use Prim.Native.Nat.{_-_};
+ghost use mathlib.Core.Path.{_≡_};
 ghost use lib.Bits.{bitAnd};
 ghost use Rattle.counter.specs.Capture.{flagsTo};
 

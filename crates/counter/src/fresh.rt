@@ -1,14 +1,14 @@
 // A fresh timer of an accepted configuration.
 
 use crate::state::Clock;
-use crate::state::Counter;
-use crate::state::Drives;
 use crate::state::Flags;
 use crate::state::Halts;
 use crate::state::Registers;
 use crate::state::Timer;
-use crate::units::Cycle;
 use config::Config;
+use tick::setting::Drives;
+use wave::count::Counter;
+use wave::units::Cycle;
 ghost use mathlib.Core.Path.{_≡_};
 ghost use Rattle.counter.specs.Fresh.{freshOf, startedOf};
 ghost use Rattle.counter.specs.Valid.{Valid};

@@ -4,9 +4,9 @@ use crate::advance::Logged;
 use crate::state::Clock;
 use crate::state::Halts;
 use crate::state::Timer;
-use crate::units::Cycle;
-ghost use mathlib.Core.Path.{_≡_};
+use wave::units::Cycle;
 ghost use Prim.Native.Nat.{_+_, _-_, _<_, _≤_, _^_};
+ghost use mathlib.Core.Path.{_≡_};
 ghost use Rattle.counter.specs.Halts.{haltsTo, clockTo, latestTo, halting, asleepAt, awakeAt, reducedTo, prescaledAt, tsmTo, routedTo, resetAt};
 ghost use Rattle.counter.specs.Logs.{Logs};
 

@@ -2,14 +2,11 @@
 
 pub mod advance;
 pub mod capture;
-pub mod count;
-pub mod distance;
 pub mod flags;
 pub mod fresh;
 pub mod halts;
 pub mod modes;
-pub mod outputs;
+pub mod next;
 pub mod registers;
 pub mod setting;
 pub mod state;
-pub mod units;

@@ -1,42 +1,21 @@
 // Mode, kind, TOP, MAX and clock: the tables that belong to the timer.
 
 use crate::state::Timer;
-use crate::units::Prescaler;
 use config::Clocks;
+use wave::kinds::CTC;
+use wave::kinds::FAST;
+use wave::kinds::FIXED;
+use wave::kinds::ICR;
+use wave::kinds::NORMAL;
+use wave::kinds::OCRA;
+use wave::kinds::PC;
+use wave::kinds::PFC;
+use wave::kinds::Wave;
+use wave::units::Prescaler;
+ghost use Prim.Native.Nat.{_<_};
 ghost use mathlib.Core.Path.{_≡_};
 ghost use mathlib.Core.Bool.{cond};
-ghost use Prim.Native.Nat.{_<_};
 ghost use Rattle.counter.specs.Modes.{modeAt, kindAt, sourceAt, fixedAt, maxAt, divisorAt, modeOf, waveOf, divisorOf, prescalerOf, heldOf, runningOf};
-
-// Kinds of mode: normal, CTC, fast PWM, phase correct PWM, phase and frequency correct PWM.
-pub const NORMAL: u8 = 0;
-
-pub const CTC: u8 = 1;
-
-pub const FAST: u8 = 2;
-
-pub const PC: u8 = 3;
-
-pub const PFC: u8 = 4;
-
-// Sources of TOP.
-pub const FIXED: u8 = 0;
-
-pub const OCRA: u8 = 1;
-
-pub const ICR: u8 = 2;
-
-// The waveform that mode and registers set: what decides the count. a, b and c tell which compares there are.
-pub struct Wave {
-    pub kind: u8,
-    pub source: u8,
-    pub fixed: u32,
-    pub max: u32,
-    pub icr: u32,
-    pub a: bool,
-    pub b: bool,
-    pub c: bool,
-}
 
 impl Timer {
     const NARROW_KINDS: [u8; 8] = [NORMAL, PC, CTC, FAST, NORMAL, PC, NORMAL, FAST];

@@ -1,23 +1,19 @@
 // Registers: what an address holds, what reading it yields, and what writing it does.
 
 use crate::advance::Logged;
-use crate::count::Events;
-use crate::modes::CTC;
-use crate::outputs::Outputs;
-use crate::setting::Setting;
 use crate::state::Registers;
 use crate::state::Timer;
-use crate::units::Cycle;
 use config::Config;
 use config::Layout;
 use records::Log;
+use tick::events::Events;
+use tick::outputs::Outputs;
+use wave::kinds::CTC;
+use wave::units::Cycle;
+ghost use Prim.Native.Nat.{_<_};
 ghost use mathlib.Core.Path.{_≡_};
-ghost use mathlib.Core.Bool.{cond};
-ghost use Prim.Native.Nat.{_+_, _<_, _≤_};
-ghost use lib.ListN.{length};
 ghost use Rattle.counter.specs.Logs.{Logs};
-ghost use Rattle.counter.specs.Outputs.{begun, Wrote};
-ghost use Rattle.counter.specs.Registers.{registersTo, tempTo, icrTo, countTo, immediate, compareTo, wordOf, packed, controlOf, peeked, readValue, readTimer, committed, commit, configured, forcedBy, reapplied, strobed, driven, storedA, strobes, writtenA, writtenB, written};
+ghost use Rattle.counter.specs.Registers.{registersTo, tempTo, icrTo, countTo, immediate, compareTo, wordOf, packed, controlOf, peeked, readValue, readTimer, committed, commit, configured, forcedBy, driven, storedA, strobes, writtenA, writtenB, written};
 ghost use Rattle.counter.specs.Valid.{Valid};
 
 // A byte read, and the timer with what reading it does to TEMP.
@@ -44,54 +40,6 @@ pub fn forced(config: Config, value: u8) -> Events
         load: false,
         bottom: false,
         rises: false,
-    }
-}
-
-impl Setting {
-    // The channels' enables and levels go to their pins, A, B, C.
-    pub fn reapply(self, start: Outputs, area: &mut [u8], cycle: Cycle) -> Outputs
-        requires { ⌜ start .to + 30 ≤ length (now area) ⌝ }
-        ensures { λ r. ⌜ Wrote (reapplied self (begun start)) (cycle .0) (start .to) (now (area .entry)) r (now (area .exit)) × (r .to ≤ start .to + 30) ⌝ }
-    {
-        let a = self.a;
-        let b = self.b;
-        let c = self.c;
-        let first = start.apply(a, 0, area, cycle);
-        let second = first.apply(b, 1, area, cycle);
-        second.apply(c, 2, area, cycle)
-    }
-
-    // A force strobe acts only in N and C.
-    pub fn strobe(self, e: Events, start: Outputs, area: &mut [u8], cycle: Cycle) -> Outputs
-        requires { ⌜ start .to + 30 ≤ length (now area) ⌝ }
-        ensures { λ r. ⌜ Wrote (strobed self e (begun start)) (cycle .0) (start .to) (now (area .entry)) r (now (area .exit)) × (r .to ≤ start .to + 30) ⌝ }
-    {
-        let wave = self.wave;
-        if wave.kind <= CTC {
-            self.matches(e, start, area, cycle)
-        } else {
-            start
-        }
-    }
-
-    // The drives reapplied where asked, then a force strobe.
-    pub fn drive(
-        self,
-        again: bool,
-        e: Events,
-        start: Outputs,
-        area: &mut [u8],
-        cycle: Cycle,
-    ) -> Outputs
-        requires { ⌜ start .to + 60 ≤ length (now area) ⌝ }
-        ensures { λ r. ⌜ Wrote (strobed self e (cond again (reapplied self (begun start)) (begun start))) (cycle .0) (start .to) (now (area .entry)) r (now (area .exit)) × (r .to ≤ start .to + 60) ⌝ }
-    {
-        if again {
-            let first = self.reapply(start, area, cycle);
-            self.strobe(e, first, area, cycle)
-        } else {
-            self.strobe(e, start, area, cycle)
-        }
     }
 }
 

@@ -1,73 +1,14 @@
 // A timer as the ticks of one call see it: what they cannot change, and what they move.
 
-use crate::modes::CTC;
-use crate::modes::Wave;
-use crate::state::Counter;
-use crate::state::Drives;
 use crate::state::Flags;
 use crate::state::Timer;
-use config::Compare;
-use config::Wire;
+use tick::setting::Channel;
+use tick::setting::Moving;
+use tick::setting::Setting;
+use wave::kinds::Wave;
 ghost use mathlib.Core.Path.{_≡_};
 ghost use Rattle.counter.specs.Modes.{togglesAt};
-ghost use Rattle.counter.specs.Setting.{enabledAt, channelOf, settingAt, movingOf, settle};
-
-// A compare channel: its COM field, whether it drives its pin, the pin, and its TIFR bit.
-pub struct Channel {
-    pub comx: u8,
-    pub enabled: bool,
-    pub wire: Wire,
-    pub flag: u8,
-}
-
-// What a tick cannot change. capture tells whether there is a capture unit; icf is its TIFR bit.
-pub struct Setting {
-    pub wave: Wave,
-    pub a: Channel,
-    pub b: Channel,
-    pub c: Channel,
-    pub buffer: [u32; 3],
-    pub tov: u8,
-    pub capture: bool,
-    pub icf: u8,
-    pub timsk: u8,
-    pub id: u8,
-}
-
-// All that a tick changes.
-pub struct Moving {
-    pub counter: Counter,
-    pub ocr: [u32; 3],
-    pub oc: [u8; 3],
-    pub drives: Drives,
-    pub tifr: u8,
-}
-
-impl Channel {
-    // Does a channel drive its pin: COM 1 only where it toggles.
-    pub fn enabled_at(comx: u8, kind: u8, toggles: bool) -> bool
-        ensures { λ r. ⌜ r ≡ enabledAt comx kind toggles ⌝ }
-    {
-        match comx {
-            0 => false,
-            1 => (kind <= CTC) | toggles,
-            _ => true,
-        }
-    }
-
-    // A unit as its COM field and the mode's kind have it.
-    pub fn of(unit: Compare, comx: u8, kind: u8, toggles: bool) -> Channel
-        ensures { λ r. ⌜ r ≡ channelOf unit comx kind toggles ⌝ }
-    {
-        let wire = unit.wire;
-        Channel {
-            comx,
-            enabled: Self::enabled_at(comx, kind, toggles),
-            wire,
-            flag: unit.flag,
-        }
-    }
-}
+ghost use Rattle.counter.specs.Setting.{settingAt, movingOf, settle};
 
 impl Timer {
     // Does COM 1 toggle channel A in a PWM mode.

@@ -1,20 +1,9 @@
 // What changes of a timer, in parts.
 
-use crate::units::Cycle;
 use config::Config;
-
-// TCNTn, the way it goes in P and Q (plus or minus one), and whether a write of it blocks the next match.
-pub struct Counter {
-    pub count: u32,
-    pub direction: i32,
-    pub blocked: bool,
-}
-
-// The drive last recorded for each channel.
-pub struct Drives {
-    pub enables: [u8; 3],
-    pub values: [u8; 3],
-}
+use tick::setting::Drives;
+use wave::count::Counter;
+use wave::units::Cycle;
 
 pub struct Registers {
     pub tccra: u8,

@@ -9,11 +9,12 @@ use lib.ListN.{length}
 use borrow.Author.Tests.{ltb-false, eqb-true}
 use Rattle.counter.specs.declared.state.Timer.{Timer}
 use Rattle.counter.specs.Halts.{latestTo}
-use Rattle.counter.specs.Passage.{Passed, ticks, advanced}
-use Rattle.counter.proofs.Bounds.{cond-case, cond-all}
+use Rattle.tick.specs.Passage.{ticks}
+use Rattle.counter.specs.Passage.{Passed, advanced}
+use Rattle.tick.proofs.Choices.{cond-case, cond-all}
 use Rattle.timer.specs.declared.calls.Call.{Call}
-use Rattle.timer.specs.Answers.{Told}
-use Rattle.timer.specs.Refusals.{isDue, late, refusal}
+use Rattle.answers.specs.Answers.{Told}
+use Rattle.answers.specs.Refusals.{isDue, late, refusal}
 use Rattle.timer.specs.Calls.{asks, works, before, worked, moved, performed, refusalOf, answered}
 use Rattle.timer.specs.Claims.{Request, told}
 

@@ -6,16 +6,17 @@ use mathlib.Core.Bool.{Bool, true, false, not, _&&_, and-false, true≢false}
 use lib.Dec.{eqb, leb}
 use lib.ListN.{length}
 use borrow.Author.Tests.{eqb-false, lt-leb}
-use Rattle.counter.specs.declared.state.Counter.{Counter}
+use Rattle.wave.specs.declared.count.Counter.{Counter}
 use Rattle.counter.specs.declared.state.Timer.{Timer}
 use Rattle.counter.specs.Capture.{captured, ticksOn}
 use Rattle.counter.specs.Halts.{halting, asleepAt, awakeAt, reducedTo, prescaledAt, tsmTo, routedTo}
 use Rattle.counter.specs.Logs.{Noted}
 use Rattle.counter.specs.Modes.{heldOf, runningOf}
-use Rattle.counter.specs.Passage.{ticks, due, start, synced, advanced, passed, syncTo}
+use Rattle.tick.specs.Passage.{ticks}
+use Rattle.counter.specs.Passage.{due, start, synced, advanced, passed, syncTo}
 use Rattle.counter.specs.Registers.{compareTo, readTimer, commit, stored, configured, driven, writtenA, writtenB, written}
 use Rattle.counter.specs.Valid.{Valid}
-use Rattle.counter.proofs.Bounds.{cond-case, cond-all}
+use Rattle.tick.proofs.Choices.{cond-case, cond-all}
 use Rattle.timer.specs.declared.calls.Call.{Call}
 use Rattle.timer.specs.declared.calls.Call.the-variants as call
 use Rattle.timer.specs.Calls.{placed, edgeCaptures, edgeTicks, outputCaptures, changes, prescales, asks, works, before}

@@ -3,9 +3,9 @@ use mathlib.Core.Path.{_≡_, refl, sym, _∙_}
 use mathlib.Core.List.{List}
 use Prim.Native.Nat.{ℕ}
 use Rattle.counter.specs.declared.state.Timer.{Timer}
-use Rattle.counter.specs.Passage.{ticks}
-use Rattle.timer.specs.declared.answers.Outcome.{Outcome}
-use Rattle.timer.specs.Answers.{Told, Tells}
+use Rattle.tick.specs.Passage.{ticks}
+use Rattle.answers.specs.declared.Outcome.{Outcome}
+use Rattle.answers.specs.Answers.{Told, Tells}
 use Rattle.timer.specs.Claims.{Request, heard, outcomes, last, History, nothing, called, CodeIsRun}
 use Rattle.timer.proofs.Alike.{alike}
 

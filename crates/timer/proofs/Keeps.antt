@@ -7,9 +7,9 @@ use mathlib.Core.List.{List, [], _∷_}
 use Rattle.counter.specs.declared.state.Timer.{Timer}
 use Rattle.counter.specs.Halts.{halting}
 use Rattle.counter.specs.Logs.{Noted}
-use Rattle.counter.specs.Passage.{ticks}
+use Rattle.tick.specs.Passage.{ticks}
 use Rattle.counter.specs.Valid.{Valid}
-use Rattle.counter.proofs.Bounds.{cond-case, cond-all}
+use Rattle.tick.proofs.Choices.{cond-case, cond-all}
 use Rattle.counter.proofs.Lasting.{advance-keeps}
 use Rattle.counter.proofs.Keeps.{Lasts, flags-keep, read-keeps, written-keeps, captured-keeps, struck-keeps, sync-keeps, reduced-keeps, routed-keeps, asleep-keeps, awake-keeps, prescaled-keeps, tsm-keeps, reset-keeps}
 use Rattle.timer.specs.declared.calls.Call.{Call}

@@ -9,12 +9,13 @@ use lib.ListN.{length}
 use borrow.Author.Tests.{eqb-false}
 use Rattle.counter.specs.declared.state.Timer.{Timer}
 use Rattle.counter.specs.Halts.{latestTo, awakeAt, prescaledAt, tsmTo, resetAt}
-use Rattle.counter.specs.Passage.{ticks, synced, passed, syncTo}
+use Rattle.tick.specs.Passage.{ticks}
+use Rattle.counter.specs.Passage.{synced, passed, syncTo}
 use Rattle.counter.specs.Registers.{driven}
-use Rattle.counter.proofs.Bounds.{cond-case, cond-all}
+use Rattle.tick.proofs.Choices.{cond-case, cond-all}
 use Rattle.timer.specs.declared.calls.Call.{Call}
 use Rattle.timer.specs.declared.calls.Call.the-variants as call
-use Rattle.timer.specs.Answers.{Told}
+use Rattle.answers.specs.Answers.{Told}
 use Rattle.timer.specs.Calls.{asks, works, before, worked, performed, refusalOf, answered}
 use Rattle.timer.specs.Claims.{taken, originAfter, Origin}
 

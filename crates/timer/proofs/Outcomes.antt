@@ -1,36 +1,35 @@
 -- What the calls answer, over plain values: turned away, done, filed with its records, advanced.
 use Prim.Native.Nat.{ℕ, zero, suc, _+_, _-_, _%_, _≤_, _<_, _^_}
 use native.Mathlib.Omega.{arith}
-use native.Mathlib.Nat.{zero-add, mod-eq-of-lt}
+use native.Mathlib.Nat.{mod-eq-of-lt}
 use mathlib.Core.Path.{_≡_, refl, sym, ap, _∙_}
 use mathlib.Core.Bool.{Bool, true, false, cond, not, _&&_, _||_, Bool·beq}
 use mathlib.Core.List.{List, [], _++_}
 use lib.Dec.{eqb, leb, ltb, leb·zero, eqb·suc-zero}
-use lib.ListN.{length, take, drop}
-use lib.Seq.{sets, sets-eq, length-take-le}
-use borrow.Author.Tests.{ne-eqb, leb-true, leb-false, ltb-false}
+use lib.ListN.{length, drop}
+use borrow.Author.Tests.{ne-eqb, leb-false, ltb-false}
 use Rattle.records.specs.Records.{recordsOf}
 use Rattle.counter.specs.declared.advance.Advanced.{Advanced}
 use Rattle.counter.specs.declared.advance.Logged.{Logged}
-use Rattle.counter.specs.declared.distance.Next.the-variants.{At, Never}
 use Rattle.counter.specs.declared.state.Timer.{Timer}
-use Rattle.counter.specs.declared.units.Cycle.{Cycle}
 use Rattle.counter.specs.Capture.{captures}
-use Rattle.counter.specs.Distance.{gap, nextAt, nextOf}
+use Rattle.wave.specs.Distance.{gap}
+use Rattle.counter.specs.Next.{nextAt}
 use Rattle.counter.specs.Halts.{latestTo, halting, asleepAt, awakeAt, reducedTo, prescaledAt, tsmTo, routedTo}
 use Rattle.counter.specs.Logs.{Logs}
-use Rattle.counter.specs.Modes.{modeOf, waveOf, runningOf}
-use Rattle.counter.specs.Passage.{ticks, due, synced, passed, syncTo, advanced, Advances}
+use Rattle.counter.specs.Modes.{modeOf, waveOf}
+use Rattle.tick.specs.Passage.{ticks}
+use Rattle.counter.specs.Passage.{due, synced, passed, syncTo, advanced, Advances}
 use Rattle.counter.specs.Registers.{written}
 use Rattle.counter.specs.Valid.{Valid}
 use Rattle.counter.proofs.Clocks.{due-gap}
-use Rattle.timer.specs.declared.answers.Answer.{Answer}
-use Rattle.timer.specs.declared.answers.Answer.the-variants as answer
-use Rattle.timer.specs.declared.answers.Outcome.{Outcome}
+use Rattle.answers.specs.declared.Answer.{Answer}
+use Rattle.answers.specs.declared.Answer.the-variants as answer
+use Rattle.answers.specs.declared.Outcome.{Outcome}
 use Rattle.timer.specs.declared.calls.Call.{Call}
 use Rattle.timer.specs.declared.calls.Call.the-variants as call
-use Rattle.timer.specs.Answers.{Told, none, fitted, numberOf, valuesOf, Tells, Filed}
-use Rattle.timer.specs.Refusals.{isDue, late, refusal}
+use Rattle.answers.specs.Answers.{Told, none, fitted, numberOf, valuesOf, Tells, Filed}
+use Rattle.answers.specs.Refusals.{isDue, late, refusal}
 use Rattle.timer.specs.Calls.{placed, reduces, changes, prescales, edgeCaptures, outputCaptures, asks, works, says, before, worked, moved, performed, refusalOf, answered}
 use Rattle.timer.proofs.Accepted.{call-accepted}
 use Rattle.timer.proofs.Keeps.{call-keeps}
@@ -57,23 +56,6 @@ late-alone t cycle = go (late t cycle)
     go : (n : ℕ) → cond (not (eqb n 0)) n 0 ≡ n
     go zero = refl
     go (suc n) = rw (eqb·suc-zero n)
-
--- is the next event due
-pub event-due : (t : Timer) (cycle : ℕ) {at : Cycle} → At at ≡ nextOf t → leb (at .0) cycle ≡ isDue t cycle
-unfolding isDue nextOf
-event-due t cycle {at} h = go (runningOf t) h
-  where
-    go : (b : Bool) → At at ≡ cond b (At (record { 0 = nextAt t })) Never → leb (at .0) cycle ≡ b && leb (nextAt t) cycle
-    go true e = let z : at ≡ record { 0 = nextAt t } = cc in rw z
-    go false e = absurd (let z : _≡_ {A = ℕ} 0 1 = cc in omega arith)
-
-pub never-due : (t : Timer) (cycle : ℕ) → Never ≡ nextOf t → false ≡ isDue t cycle
-unfolding isDue nextOf
-never-due t cycle h = go (runningOf t) h
-  where
-    go : (b : Bool) → Never ≡ cond b (At (record { 0 = nextAt t })) Never → false ≡ b && leb (nextAt t) cycle
-    go true e = absurd (let z : _≡_ {A = ℕ} 0 1 = cc in omega arith)
-    go false e = refl
 
 -- a call accepted that may not pass the next event has no event due: time passes in one step
 pub sync-asked : (t : Timer) (c : Call) (cycle : ℕ) → Valid t → refusalOf t c cycle ≡ 0 → asks t c .tested ≡ true
@@ -157,22 +139,6 @@ module _ {t x : Timer} (k : Kept t x) where
   pub same-output : (level : ℕ) → outputCaptures x level ≡ outputCaptures t level
   unfolding outputCaptures captures modeOf
   same-output level = rw (k .config, k .registers, k .halts)
-
--- ---- a log written
-module _ (was : Timer) (l : Logged) (cycle : ℕ) (area : List ℕ) {wrote : Bool} {after : List ℕ} (long : length (l .log .bytes) ≡ 110) (most : l .log .len ≤ 110)
-    (w : (wrote ≡ leb (0 + l .log .len) (length area)) × (after ≡ cond wrote (sets area 0 (take (l .log .len) (l .log .bytes))) area)) where
-  fit : leb (l .log .len) (length area) ≡ wrote
-  fit = rw (zero-add (l .log .len)) at (sym (w .0))
-
-  pub wrote-all : {u : Timer} → wrote ≡ true → u ≡ latestTo (l .timer) cycle → Filed was l cycle area (record { answer = answer.Done; timer = u; written = l .log .len }) after
-  wrote-all d e =
-      let n : length (take (l .log .len) (l .log .bytes)) ≡ l .log .len = length-take-le _ _ (omega arith) in
-      let f : l .log .len ≤ length area = leb-true _ _ (fit ∙ d) in
-      let s = sets-eq (take (l .log .len) (l .log .bytes)) area 0 (omega arith) in
-      record { outcome = rw (fit, d, e); area = rw (fit, d) (rw d at (w .1) ∙ s ∙ rw (n, zero-add (l .log .len))) }
-
-  pub wrote-none : {r : Outcome} → wrote ≡ false → r ≡ record { answer = answer.Refused 8; timer = was; written = 0 } → Filed was l cycle area r after
-  wrote-none d e = record { outcome = rw (fit, d, e); area = rw (fit, d) (rw d at (w .1)) }
 
 -- ---- answers
 module _ (t : Timer) (c : Call) (cycle : ℕ) (area : List ℕ) where

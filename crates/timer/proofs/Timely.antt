@@ -3,12 +3,13 @@ use Prim.Native.Nat.{ℕ, zero, suc, _≤_, _<_, _^_}
 use native.Mathlib.Omega.{arith}
 use mathlib.Core.Path.{_≡_, refl}
 use mathlib.Core.Bool.{Bool, true, false, false≢true}
-use Rattle.counter.specs.declared.setting.Setting.{Setting}
+use Rattle.tick.specs.declared.setting.Setting.{Setting}
 use Rattle.counter.specs.declared.state.Timer.{Timer}
-use Rattle.counter.specs.declared.units.Prescaler.{Prescaler}
+use Rattle.wave.specs.declared.units.Prescaler.{Prescaler}
 use Rattle.counter.specs.Modes.{prescalerOf}
 use Rattle.counter.specs.Setting.{settingOf}
-use Rattle.counter.specs.Passage.{Run, one, ticks, due, start, synced, passed, syncTo, syncOf}
+use Rattle.tick.specs.Passage.{Run, one, ticks}
+use Rattle.counter.specs.Passage.{due, start, synced, passed, syncTo, syncOf}
 use Rattle.counter.specs.Valid.{Valid}
 use Rattle.counter.proofs.Lasting.{due-keeps}
 use Rattle.counter.proofs.Keeps.{Lasts, valid-lasts}

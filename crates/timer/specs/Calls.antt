@@ -11,15 +11,16 @@ use Rattle.config.specs.declared.Wire.the-variants.{Pin, Absent}
 use Rattle.config.specs.Config.{placeOf}
 use Rattle.counter.specs.declared.state.Timer.{Timer}
 use Rattle.counter.specs.Capture.{captures, captured, ticksOn, flagsTo}
-use Rattle.counter.specs.Distance.{nextOf}
+use Rattle.counter.specs.Next.{nextOf}
 use Rattle.counter.specs.Halts.{latestTo, halting, asleepAt, awakeAt, reducedTo, prescaledAt, tsmTo, routedTo, resetAt}
 use Rattle.counter.specs.Logs.{Noted, silent, struck}
-use Rattle.counter.specs.Passage.{Passage, Passed, synced, advanced, syncTo}
+use Rattle.tick.specs.Passage.{Passage}
+use Rattle.counter.specs.Passage.{Passed, synced, advanced, syncTo}
 use Rattle.counter.specs.Registers.{isHigh, immediate, peeked, readValue, readTimer, written}
 use Rattle.timer.specs.declared.calls.Call.{Call}
 use Rattle.timer.specs.declared.calls.Call.the-variants as call
-use Rattle.timer.specs.Answers.{Values, none, byte, event, paused, Told, turned, given, fitted}
-use Rattle.timer.specs.Refusals.{refusal}
+use Rattle.answers.specs.Answers.{Values, none, byte, event, paused, Told, turned, given, fitted}
+use Rattle.answers.specs.Refusals.{refusal}
 
 -- ---- which timer a call concerns
 

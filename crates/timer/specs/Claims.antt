@@ -8,17 +8,19 @@ use lib.ListN.{length}
 use Rattle.config.specs.declared.Config.{Config}
 use Rattle.config.specs.Config.{accepted}
 use Rattle.counter.specs.declared.state.Timer.{Timer}
-use Rattle.counter.specs.Count.{tick}
-use Rattle.counter.specs.Distance.{gap, linear, nextAt}
+use Rattle.tick.specs.Tick.{tick}
+use Rattle.wave.specs.Distance.{gap}
+use Rattle.tick.specs.Skip.{linear}
+use Rattle.counter.specs.Next.{nextAt}
 use Rattle.counter.specs.Fresh.{freshOf}
 use Rattle.counter.specs.Modes.{modeOf, waveOf, runningOf}
-use Rattle.counter.specs.Passage.{Passage, ticks, events}
+use Rattle.tick.specs.Passage.{Passage, ticks, events}
 use Rattle.counter.specs.Setting.{settingOf, movingOf}
 use Rattle.counter.specs.Valid.{Valid}
 use Rattle.timer.specs.declared.calls.Call.{Call}
 use Rattle.timer.specs.declared.calls.Call.the-variants as call
-use Rattle.timer.specs.declared.answers.Outcome.{Outcome}
-use Rattle.timer.specs.Answers.{Told, Tells, numberOf, valuesOf}
+use Rattle.answers.specs.declared.Outcome.{Outcome}
+use Rattle.answers.specs.Answers.{Told, Tells, numberOf, valuesOf}
 use Rattle.timer.specs.Calls.{answered, placed, prescales, refusalOf}
 
 -- a call with its cycle and its area

@@ -1,5 +1,3 @@
-pub mod Answers
-pub mod Refusals
 pub mod Calls
 pub mod Claims
 pub mod Readings

@@ -10,13 +10,13 @@ use Rattle.config.specs.declared.Config.{Config}
 use Rattle.config.specs.declared.Layout.the-variants.{Split}
 use Rattle.config.specs.declared.Wire.the-variants.{Pin}
 use Rattle.config.specs.Config.{noCompare, noCapture}
-use Rattle.counter.specs.declared.distance.Next.the-variants.{At}
+use Rattle.counter.specs.declared.next.Next.the-variants.{At}
 use Rattle.counter.specs.declared.state.Timer.{Timer}
 use Rattle.counter.specs.Fresh.{freshOf}
-use Rattle.counter.specs.Passage.{ticks}
+use Rattle.tick.specs.Passage.{ticks}
 use Rattle.timer.specs.declared.calls.Call.{Call}
 use Rattle.timer.specs.declared.calls.Call.the-variants.{Advance, Next, Peek, Write, Edge, Tifr, Sleep, Wake}
-use Rattle.timer.specs.Answers.{Values, none, byte, event, Told}
+use Rattle.answers.specs.Answers.{Values, none, byte, event, Told}
 use Rattle.timer.specs.Calls.{answered}
 
 -- a compare unit of the ATmega328P

@@ -1,20 +1,20 @@
 // The calls, each by value with its cycle and its area.
 
-use crate::answers::Answer;
-use crate::answers::Outcome;
-use crate::answers::done;
-use crate::answers::logged;
-use crate::answers::refused;
-use crate::refusals::late;
-use crate::refusals::refusal;
+use answers::Answer;
+use answers::Outcome;
+use answers::done;
+use answers::logged;
+use answers::refusals::late;
+use answers::refusals::refusal;
+use answers::refused;
 use config::Wire;
 use counter::state::Timer;
-use counter::units::Cycle;
+use wave::units::Cycle;
 ghost use mathlib.Core.Path.{_≡_};
-ghost use Rattle.counter.specs.Passage.{ticks};
+ghost use Rattle.tick.specs.Passage.{ticks};
 ghost use Rattle.counter.specs.Registers.{isHigh};
 ghost use Rattle.counter.specs.Valid.{Valid};
-ghost use Rattle.timer.specs.Answers.{Tells};
+ghost use Rattle.answers.specs.Answers.{Tells};
 ghost use Rattle.timer.specs.Calls.{isPin, answered};
 
 // A call with its arguments.

@@ -1,10 +1,7 @@
 // The bench timer's calls: whoever calls, with anything, gets the result or one numbered refusal.
 
-pub mod answers;
 pub mod calls;
-pub mod refusals;
 
-use crate::answers::Outcome;
 use crate::calls::Call;
 use crate::calls::advance;
 use crate::calls::edge;
@@ -24,11 +21,12 @@ use crate::calls::wake;
 use crate::calls::write;
 use crate::calls::write_tifr;
 use crate::calls::write_timsk;
+use answers::Outcome;
 use counter::state::Timer;
-use counter::units::Cycle;
-ghost use Rattle.counter.specs.Passage.{ticks};
+use wave::units::Cycle;
+ghost use Rattle.tick.specs.Passage.{ticks};
 ghost use Rattle.counter.specs.Valid.{Valid};
-ghost use Rattle.timer.specs.Answers.{Tells};
+ghost use Rattle.answers.specs.Answers.{Tells};
 ghost use Rattle.timer.specs.Calls.{answered};
 
 // Hands a call to the function of its name.

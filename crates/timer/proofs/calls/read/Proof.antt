@@ -1,5 +1,5 @@
 use Rattle.timer.proofs.Outcomes.{turned-away, sync-asked, kept, same-place, at-once, in-time, plainly}
-use Rattle.timer.specs.Answers.{byte}
+use Rattle.answers.specs.Answers.{byte}
 use Rattle.counter.specs.Registers.{readTimer, readValue}
 use Rattle.timer.specs.declared.calls.Call.the-variants as call
 use Rattle.timer.specs.Calls.{asks, works, says, refusalOf}

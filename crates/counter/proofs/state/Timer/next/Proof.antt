@@ -1,6 +1,6 @@
 use mathlib.Core.Path.{sym, _∙_}
 use borrow.Author.Needs.{needs}
-use Rattle.counter.specs.Distance.{nextOf}
+use Rattle.counter.specs.Next.{nextOf}
 use Rattle.counter.specs.Modes.{waveOf}
 use Rattle.counter.proofs.Clocks.{running-divides}
 use Rattle.counter.proofs.Steps.{Parts, next-tick, next-cycle, next-at}

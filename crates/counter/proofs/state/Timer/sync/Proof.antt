@@ -1,6 +1,6 @@
 use Rattle.counter.proofs.Syncs.{due-quiet, due-small, syncs-quiet, syncs-idle}
 use Rattle.counter.proofs.Advances.{Begun, ticks-asked, begun-upto, begun-steady}
-use Rattle.counter.specs.Distance.{gap}
+use Rattle.wave.specs.Distance.{gap}
 use Rattle.counter.specs.Modes.{waveOf}
 use mathlib.Core.Path.{refl, sym, ap, _∙_}
 use native.Mathlib.Omega.{arith}

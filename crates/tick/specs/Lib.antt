@@ -1,0 +1,7 @@
+pub mod Setting
+pub mod Outputs
+pub mod Tick
+pub mod Skip
+pub mod Sound
+pub mod Passage
+pub mod Law

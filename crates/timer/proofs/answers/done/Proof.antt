@@ -1,9 +1,0 @@
-use borrow.Author.Needs.{needs}
-use Rattle.timer.proofs.answers.done.Statement.{statement}
-use Rattle.timer.proofs.answers.done.Tie as tie
-
-returns : tie.Need-returns
-returns c = rw (c .accepted .ensures)
-
-pub done-spec : {M : Type 1} → statement M
-done-spec = tie.close (tie.spec (λ c κs. search needs) returns)

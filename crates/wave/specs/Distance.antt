@@ -1,0 +1,38 @@
+-- Quiet ticks ahead, and the count after them (01, "Count, direction, next event").
+use Prim.Native.Nat.{ℕ, _+_, _-_, min}
+use mathlib.Core.Bool.{Bool, cond, _&&_}
+use mathlib.Core.List.{List}
+use lib.ListN.{getD}
+use lib.Dec.{eqb, leb}
+use Rattle.wave.specs.declared.kinds.Wave.{Wave}
+use Rattle.wave.specs.declared.count.Counter.{Counter}
+use Rattle.wave.specs.Count.{falls, topOf}
+
+-- ticks before the count turns or wraps: to 0 falling, else to TOP, or to MAX from above TOP
+unfoldable pub space : Bool → ℕ → ℕ → ℕ → ℕ
+space down count top max = cond down count (cond (leb count top) (top - count) (max - count))
+
+-- ticks before a compare that lies ahead is met, else all there are
+unfoldable pub ahead : Bool → Bool → ℕ → ℕ → ℕ → ℕ
+ahead present down count compare all =
+    cond present
+    (cond down (cond (leb compare count) (count - compare) all) (cond (leb count compare) (compare - count) all))
+    all
+
+-- the quiet ticks before the next event's
+unfoldable pub gapAt : Wave → Bool → ℕ → List ℕ → ℕ → ℕ
+gapAt w down count ocr all =
+    min (min all (ahead (w .a) down count (getD ocr 0 0) all))
+    (min (ahead (w .b) down count (getD ocr 1 0) all) (ahead (w .c) down count (getD ocr 2 0) all))
+
+-- the same, from the counter and the active compares
+unfoldable pub gap : Wave → Counter → List ℕ → ℕ
+gap w c ocr = gapAt w (falls w c) (c .count) ocr (space (falls w c) (c .count) (topOf w (getD ocr 0 0)) (w .max))
+
+-- the count n quiet ticks on
+unfoldable pub moved : Bool → ℕ → ℕ → ℕ
+moved down count n = cond down (count - n) (count + n)
+
+-- n quiet ticks in one step; none leave the block as it was
+abbrev pub skipped : Wave → ℕ → Counter → Counter
+skipped w n c = record { count = moved (falls w c) (c .count) n; direction = c .direction; blocked = c .blocked && eqb n 0 }

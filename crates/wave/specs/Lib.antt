@@ -1,0 +1,4 @@
+pub mod Units
+pub mod Kinds
+pub mod Count
+pub mod Distance
