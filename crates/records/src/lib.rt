@@ -3,7 +3,7 @@
 ghost use mathlib.Core.Path.{_≡_};
 ghost use mathlib.Core.Bool.{cond};
 ghost use Prim.Native.Nat.{_+_, _≤_};
-ghost use lib.ListN.{length, take};
+ghost use lib.ListN.{length, replicate, take};
 ghost use lib.Seq.{sets};
 ghost use Rattle.records.specs.Records.{recordOf, recordsOf, only, fits};
 
@@ -54,7 +54,7 @@ pub struct Log {
 impl Log {
     // A log without a record.
     pub fn new() -> Log
-        ensures { λ r. ⌜ r .len ≡ 0 ⌝ }
+        ensures { λ r. ⌜ r ≡ record { bytes = replicate 110 0; len = 0 } ⌝ }
     {
         Log {
             bytes: [0u8; 110],

@@ -16,11 +16,11 @@ returns-2 c = rw (c .before .match .keys2) (c .write-tccrb .ensures)
 
 returns-3 : tie.Need-returns-3
 unfolding written
-returns-3 c = rw (le-leb (c .before .before .before .before .before .args .place) 9 (omega arith), eq-eqb _ _ (c .before .before .if2 .taken)) (logs-none _ (c .before .with-temp .ensures) (c .new .ensures))
+returns-3 c = rw (le-leb (c .before .before .before .before .before .args .place) 9 (omega arith), eq-eqb _ _ (c .before .before .if2 .taken)) (logs-none _ (c .before .with-temp .ensures) (rw (c .new .ensures)))
 
 returns-4 : tie.Need-returns-4
 unfolding written
-returns-4 c = rw (le-leb (c .before .before .before .before .before .args .place) 9 (omega arith), ne-eqb _ _ (c .before .before .if2 .left)) (logs-none _ (c .before .commit .ensures) (c .new2 .ensures))
+returns-4 c = rw (le-leb (c .before .before .before .before .before .args .place) 9 (omega arith), ne-eqb _ _ (c .before .before .if2 .left)) (logs-none _ (c .before .commit .ensures) (rw (c .new2 .ensures)))
 
 returns-5 : tie.Need-returns-5
 unfolding written
