@@ -1,16 +1,33 @@
+# make run                                        the door story of examples/, answered by the bench program
+# make run SCRIPT=my.script                       a script of your own
 # make test                                       the gate: proofs, wrong programs refused, programs run
 # make oracle MCS=../MCS                          the Rust as judge; MCS is a checkout of GabePurc/MCS at fb281a0906
-# make oracle MCS=../MCS CALLS=1000000 SEED=7     a longer comparison, from another seed
+# make oracle MCS=../MCS CALLS=10000000 SEED=7    a longer comparison, from another seed
+# make oracle MCS=../MCS BENCH=                   without the bench program: needs Rust alone
 
+SCRIPT ?= examples/door.script
 MCS ?=
 CALLS ?= 300000
 SEED ?= 1
+BENCH ?= target/bin/bench
 ORACLE := oracle/target/release
 
-.PHONY: test oracle
+.PHONY: run test oracle against-bench
+.DELETE_ON_ERROR:
+
+# Each command of the script with its answer under it; the story's answers are held to those that are stored.
+run:
+	@examples/run.sh $(SCRIPT)
 
 test:
 	bash .ci/run
+
+# The program stands on nearly every crate, and is linked once all of them are proved.
+target/bin/bench: crates.txt $(shell find crates -type f ! -path '*/must-fail/*')
+	@command -v rt >/dev/null || { echo "bench: $@ is missing or older than crates/, and rt, which builds it, is not on the PATH: install the Rattle kit that .ci/kit names: $$(cat .ci/kit)" >&2; exit 1; }
+	@echo "bench: proving the program and the crates that it stands on; the first time takes minutes (docs/LANDINGS.md)"
+	rt check bench
+	@touch $@
 
 # oracle/README.md says how to read what it prints.
 oracle:
@@ -20,3 +37,8 @@ oracle:
 	oracle/check.sh
 	$(ORACLE)/compare --bends $(SEED)
 	$(ORACLE)/compare $(CALLS) $(SEED)
+	@if test -n "$(BENCH)"; then $(MAKE) --no-print-directory against-bench; else echo "oracle: the bench program is left out, since BENCH is empty"; fi
+
+# The bench program against the Rust, when the oracle is built.
+against-bench: $(BENCH)
+	$(ORACLE)/compare --program $(BENCH) $(CALLS) $(SEED)

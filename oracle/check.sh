@@ -2,7 +2,8 @@
 # Checks the scripts of readings/, choices/ and differences/: NAME.answers is what the port must answer and so
 # judge --sheet and plain, NAME.rust what the Rust itself answers where that is another, NAME.sheet what the
 # sheet would say where the port does not follow it. A script's `# rust:` and `# sheet:` lines name the flag of
-# the judge and the bend of the plain counter that show those.
+# the judge and the bend of the plain counter that show those. Then the story of examples/ in the same way, and
+# that the fixed list in crates/bench is the one that fixed.sh writes.
 set -u
 cd "$(dirname "$0")" || exit 1
 bin=target/release
@@ -32,5 +33,19 @@ for script in readings/*.script choices/*.script differences/*.script; do
     [ -n "$bend" ] && expect "$script" "$name.sheet" $bin/plain --bend "$bend"
     scripts=$((scripts + 1))
 done
-[ $failed -eq 0 ] && echo "$scripts scripts answered as they must be"
+story=../examples/door
+expect $story.script $story.answers $bin/judge --sheet
+expect $story.script $story.answers $bin/plain
+[ $failed -eq 0 ] && echo "$((scripts + 1)) scripts answered as they must be"
+
+room=$(mktemp -d) || exit 1
+trap 'rm -rf "$room"' EXIT
+./fixed.sh "$room" || failed=1
+for file in stdin stdout; do
+    if ! cmp -s "$room/$file" "../crates/bench/$file"; then
+        echo "oracle: crates/bench/$file is not what oracle/fixed.sh writes: run it" >&2
+        failed=1
+    fi
+done
+[ $failed -eq 0 ] && echo "the fixed list is up to date"
 exit $failed

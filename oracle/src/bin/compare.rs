@@ -1,16 +1,20 @@
 //! `compare CALLS SEED [BEND]`: judge against plain counter, or against one bent, to see a disagreement.
+//! `compare --program PATH CALLS SEED`: judge against a bench program. `compare --cover SCRIPT`: what does it reach?
 //! `compare --bends SEED`: is it sharp? `compare --sources MCS`: was the Rust compiled that lies there?
 
 use std::path::Path;
 use std::{env, fs, process};
 
-use oracle::compare::{self, bends};
+use oracle::compare::program::{self, Program};
+use oracle::compare::{self, bends, cover};
 use oracle::plain::bends::Bend;
 
 fn main() {
     let arguments: Vec<String> = env::args().skip(1).collect();
     let result = match arguments.iter().map(String::as_str).collect::<Vec<_>>()[..] {
         ["--bends", seed] => bends::run(number(seed)),
+        ["--cover", script] => cover::run(Path::new(script)),
+        ["--program", path, calls, seed, ref words @ ..] => against_program(path, words, calls, seed),
         ["--sources", checkout] => sources(Path::new(checkout)),
         [calls, seed] => against(calls, seed, None),
         [calls, seed, name] => against(calls, seed, Some(Bend::named(name).unwrap_or_else(|| usage()))),
@@ -26,12 +30,17 @@ fn against(calls: &str, seed: &str, bend: Option<Bend>) -> Result<(), String> {
     compare::run(number(calls) as usize, number(seed), bend).map(|figures| println!("{figures}"))
 }
 
+fn against_program(path: &str, words: &[&str], calls: &str, seed: &str) -> Result<(), String> {
+    program::run(&Program::new(path, words)?, number(calls) as usize, number(seed))
+}
+
 fn number(word: &str) -> u64 {
     word.parse().unwrap_or_else(|_| usage())
 }
 
 fn usage() -> ! {
-    eprintln!("usage: compare CALLS SEED [BEND] | compare --bends SEED | compare --sources MCS");
+    eprintln!("usage: compare CALLS SEED [BEND] | compare --program PATH CALLS SEED [ARGUMENT...]");
+    eprintln!("       compare --cover SCRIPT | compare --bends SEED | compare --sources MCS");
     process::exit(2)
 }
 

@@ -1,7 +1,7 @@
 //! Whether the comparison is sharp: each bent plain counter must be noticed.
 
 use super::figures::Figures;
-use super::{calls, clash, judged, script};
+use super::{calls, clash, judged, script, Answers};
 use crate::plain::bends::Bend;
 
 /// A bend not noticed in so many calls is a fault of the comparison.
@@ -10,11 +10,11 @@ const MOST_CALLS: usize = 500_000;
 /// Scripts with the judge's answers, made as they are wanted.
 struct Sample {
     next: u64,
-    scripts: Vec<(Vec<String>, Vec<Option<String>>)>,
+    scripts: Vec<(Vec<String>, Answers)>,
 }
 
 impl Sample {
-    fn get(&mut self, place: usize) -> &(Vec<String>, Vec<Option<String>>) {
+    fn get(&mut self, place: usize) -> &(Vec<String>, Answers) {
         while self.scripts.len() <= place {
             let lines = script(self.next).expect("a script that passes the judge's checks");
             let answers = judged(&lines, &mut Figures::default());

@@ -4,7 +4,9 @@ use std::collections::{BTreeMap, BTreeSet};
 use std::fmt;
 
 use crate::judge::{Judge, View};
-use crate::script::Layout;
+use crate::script::command::CALLS;
+use crate::script::words::Why;
+use crate::script::{presets, Layout};
 
 /// From here on a cycle is counted as near the last one, 2^62 - 1.
 const NEAR_LAST: u64 = (1 << 62) - (1 << 16);
@@ -13,6 +15,8 @@ const NEAR_LAST: u64 = (1 << 62) - (1 << 16);
 /// number, a reset goes to mode 0.
 const NARROW_CHANGES: usize = 8 * (3 + 1) + 3;
 const WIDE_CHANGES: usize = 16 * (3 + 3) + 9;
+
+const KINDS: [&str; 4] = ["wide", "narrow", "single", "single without WGM"];
 
 #[derive(Default)]
 pub struct Figures {
@@ -24,6 +28,12 @@ pub struct Figures {
     refused: BTreeMap<u8, usize>,
     paused: usize,
     records: usize,
+    /// The most records that one tick wrote.
+    most: usize,
+    /// Commands that were accepted, those on the scheduler by both words; presets; why lines could not be read.
+    accepted: BTreeSet<String>,
+    presets: BTreeSet<String>,
+    reasons: BTreeSet<String>,
     /// Accepted calls by width and mode of the timer as they left it.
     modes: BTreeMap<(bool, usize), usize>,
     mode: Option<usize>,
@@ -37,7 +47,9 @@ pub struct Figures {
 impl Figures {
     /// Counts a line with the judge's answer to it and the judge as it then stands.
     pub fn count(&mut self, line: &str, answer: &str, judge: &Judge) {
-        let name = line.split(' ').next().unwrap_or_default();
+        let mut words = line.split(' ').filter(|w| !w.is_empty());
+        let (name, second) = (words.next().unwrap_or_default(), words.next().unwrap_or_default());
+        self.count_said(name, second, answer);
         let name = if answer.starts_with("error") { "unreadable" } else { name };
         *self.lines.entry(name.into()).or_default() += 1;
         if let Some(number) = answer.strip_prefix("refused ") {
@@ -51,8 +63,21 @@ impl Figures {
         if let Some((_, rest)) = answer.split_once("bytes=") {
             let bytes = rest.split(' ').next().and_then(|b| b.parse::<usize>().ok()).unwrap_or_default();
             self.records += bytes / 10;
+            self.most = self.most.max(most_in_a_tick(answer));
             self.paused += answer.starts_with("paused") as usize;
             self.count_accepted(&view);
+        }
+    }
+
+    fn count_said(&mut self, name: &str, second: &str, answer: &str) {
+        if let Some((_, why)) = answer.strip_prefix("error line ").and_then(|rest| rest.split_once(": ")) {
+            self.reasons.insert(why.into());
+        } else if name == "preset" {
+            self.presets.insert(second.into());
+        }
+        if ["ok", "paused", "state "].iter().any(|start| answer.starts_with(start)) {
+            let command = if name == "sched" { format!("sched {second}") } else { name.into() };
+            self.accepted.insert(command);
         }
     }
 
@@ -72,18 +97,63 @@ impl Figures {
         self.seeds = Some((self.seeds.map_or(seed, |s| s.0), seed));
     }
 
+    /// All that a script can reach, and whether it did.
+    fn aims(&self) -> Vec<(&'static str, String, bool)> {
+        let mut aims = Vec::new();
+        let mut aim = |what, which: String, reached| aims.push((what, which, reached));
+        (1..=11).for_each(|n| aim("refusals", n.to_string(), self.refused.contains_key(&n)));
+        (0..8).for_each(|m| aim("narrow modes", m.to_string(), self.modes.contains_key(&(false, m))));
+        (0..16).for_each(|m| aim("wide modes", m.to_string(), self.modes.contains_key(&(true, m))));
+        KINDS.iter().for_each(|&kind| aim("layouts", kind.into(), self.timers.contains_key(kind)));
+        presets::names().for_each(|name| aim("presets", name.into(), self.presets.contains(name)));
+        commands().for_each(|name| aim("commands", name.into(), self.accepted.contains(name)));
+        Why::ALL.iter().for_each(|why| aim("reasons", why.to_string(), self.reasons.contains(&why.to_string())));
+        aim("paused advances", "any".into(), self.paused > 0);
+        aim("ticks of eleven records", "any".into(), self.most == 11);
+        aims
+    }
+
+    /// How many of each kind a script reaches.
+    pub fn reached(&self) -> String {
+        let aims = self.aims();
+        let kinds = aims.chunk_by(|a, b| a.0 == b.0).map(|kind| {
+            let reached = kind.iter().filter(|aim| aim.2).count();
+            format!("{} {reached} of {}", kind[0].0, kind.len())
+        });
+        format!("{} calls: {}", self.calls(), kinds.collect::<Vec<_>>().join(", "))
+    }
+
+    pub fn left_out(&self) -> Vec<String> {
+        self.aims().into_iter().filter(|aim| !aim.2).map(|(what, which, _)| format!("{what}: {which}")).collect()
+    }
+
     pub fn calls(&self) -> usize {
         let other = |name: &str| ["state", "config", "preset"].contains(&name);
         self.lines.iter().filter(|(name, _)| !other(name)).map(|(_, n)| n).sum()
     }
 }
 
+/// The most records of one cycle among those that an answer shows.
+fn most_in_a_tick(answer: &str) -> usize {
+    let records = answer.rsplit("records=").next().unwrap_or_default();
+    let cycles = records.as_bytes().chunks_exact(20).map(|r| std::str::from_utf8(&r[..16]).unwrap_or_default());
+    let cycles: Vec<u64> = cycles.map(|c| u64::from_str_radix(c, 16).unwrap_or_default() << 2).collect();
+    cycles.chunk_by(|a, b| a == b).map(<[u64]>::len).max().unwrap_or_default()
+}
+
+/// Every command of a script that can be accepted.
+fn commands() -> impl Iterator<Item = &'static str> {
+    let others = ["config", "preset", "state", "pin"];
+    let scheduler = ["sched at", "sched cancel", "sched is", "sched pop", "sched clear"];
+    CALLS.iter().map(|call| call.0).chain(others).chain(scheduler)
+}
+
 fn kind(view: &View) -> &'static str {
     match view.config.layout {
-        Layout::Split if view.config.wide => "wide",
-        Layout::Split => "narrow",
-        Layout::Single => "single",
-        Layout::Single0 => "single without WGM",
+        Layout::Split if view.config.wide => KINDS[0],
+        Layout::Split => KINDS[1],
+        Layout::Single => KINDS[2],
+        Layout::Single0 => KINDS[3],
     }
 }
 

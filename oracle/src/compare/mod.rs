@@ -1,7 +1,11 @@
-//! Judge and plain counter over the same random scripts, line by line, with all state after every call.
+//! The judge and another side over the same random scripts, line by line, with all state after every call. The other
+//! side is the plain counter, or a bench program (`program`).
 
+mod batch;
 pub mod bends;
+pub mod cover;
 pub mod figures;
+pub mod program;
 pub mod shrink;
 
 use std::panic;
@@ -17,11 +21,21 @@ use figures::Figures;
 /// Calls of one random script: `generate SEED 300` shows the script of a seed.
 pub const SCRIPT_CALLS: usize = 300;
 
+/// The answer to each line of a script; nothing to one without words.
+pub type Answers = Vec<Option<String>>;
+
 /// A line on which the two sides differ, and what each answers.
 pub struct Clash {
     pub line: usize,
     pub judge: String,
-    pub plain: String,
+    pub other: String,
+}
+
+impl Clash {
+    fn new(line: usize, judge: &Option<String>, other: &Option<String>) -> Self {
+        let text = |answer: &Option<String>| answer.clone().unwrap_or_default();
+        Self { line, judge: text(judge), other: text(other) }
+    }
 }
 
 /// A random script; where the judge's own checks fail on it, nothing, after the check's message.
@@ -30,7 +44,7 @@ pub fn script(seed: u64) -> Option<Vec<String>> {
 }
 
 /// Answers a script by the judge, following the sheet.
-pub fn judged(lines: &[String], figures: &mut Figures) -> Vec<Option<String>> {
+pub fn judged(lines: &[String], figures: &mut Figures) -> Answers {
     let mut play = Play::new(Judge::new(Follow::Sheet));
     let mut answers = Vec::with_capacity(lines.len());
     for line in lines {
@@ -47,8 +61,7 @@ pub fn clash(lines: &[String], judged: &[Option<String>], bend: Option<Bend>) ->
     for (line, judge) in judged.iter().enumerate() {
         let plain = play.answer(lines[line].as_bytes());
         if plain != *judge {
-            let text = |answer: &Option<String>| answer.clone().unwrap_or_default();
-            return Some(Clash { line, judge: text(judge), plain: text(&plain) });
+            return Some(Clash::new(line, judge, &plain));
         }
     }
     None
@@ -65,11 +78,11 @@ pub fn calls(lines: &[String]) -> usize {
 pub fn run(wanted: usize, first: u64, bend: Option<Bend>) -> Result<Figures, String> {
     let mut figures = Figures::default();
     for seed in first.. {
-        let lines = script(seed)
-            .ok_or(format!("a check of the judge failed on seed {seed}: generate {seed} {SCRIPT_CALLS}"))?;
+        let lines = script(seed).ok_or_else(|| failed_check(seed))?;
         let answers = judged(&lines, &mut figures);
-        if let Some(clash) = clash(&lines, &answers, bend) {
-            return Err(report(seed, &lines[..=clash.line], bend));
+        if let Some(found) = clash(&lines, &answers, bend) {
+            let find = |lines: &[String], judged: &[Option<String>]| clash(lines, judged, bend);
+            return Err(report(&format!("seed {seed}"), "plain", &lines[..=found.line], find));
         }
         figures.close_script(seed);
         if figures.calls() >= wanted {
@@ -79,11 +92,21 @@ pub fn run(wanted: usize, first: u64, bend: Option<Bend>) -> Result<Figures, Str
     Ok(figures)
 }
 
-fn report(seed: u64, lines: &[String], bend: Option<Bend>) -> String {
-    let (small, clash) = shrink::smallest(lines.to_vec(), bend);
+fn failed_check(seed: u64) -> String {
+    format!("a check of the judge failed on seed {seed}: generate {seed} {SCRIPT_CALLS}")
+}
+
+/// The smallest script of a disagreement, with both answers to its last line.
+fn report(
+    whose: &str,
+    other: &str,
+    lines: &[String],
+    find: impl Fn(&[String], &[Option<String>]) -> Option<Clash>,
+) -> String {
+    let (small, clash) = shrink::smallest(lines.to_vec(), find);
     let script = small.join("\n");
     format!(
-        "seed {seed}: judge and plain counter disagree on the last line of\n\n{script}\n\njudge: {}\nplain: {}",
-        clash.judge, clash.plain
+        "{whose}: judge and {other} disagree on the last line of\n\n{script}\n\njudge: {}\n{other}: {}",
+        clash.judge, clash.other
     )
 }

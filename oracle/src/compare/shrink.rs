@@ -1,8 +1,7 @@
 //! The smallest script that still shows a disagreement: lines are dropped, many at once and then singly.
 
-use super::{clash, Clash};
+use super::{Answers, Clash};
 use crate::judge::{Follow, Judge};
-use crate::plain::bends::Bend;
 use crate::script::play::read_line;
 use crate::script::{Call, Command, Play};
 
@@ -10,8 +9,13 @@ use crate::script::{Call, Command, Play};
 /// passes the next event.
 const MOST_TICKS: u64 = 2_000_000;
 
-pub fn smallest(mut lines: Vec<String>, bend: Option<Bend>) -> (Vec<String>, Clash) {
-    let mut found = shown(&lines, bend).expect("a script that shows a disagreement");
+/// `find` says on which line the other side's answer is not the judge's.
+pub fn smallest(
+    mut lines: Vec<String>,
+    find: impl Fn(&[String], &[Option<String>]) -> Option<Clash>,
+) -> (Vec<String>, Clash) {
+    let shown = |lines: &[String]| find(lines, &judged(lines)?);
+    let mut found = shown(&lines).expect("a script that shows a disagreement");
     let mut size = lines.len();
     while size > 0 {
         let mut at = 0;
@@ -19,7 +23,7 @@ pub fn smallest(mut lines: Vec<String>, bend: Option<Bend>) -> (Vec<String>, Cla
         while at < lines.len() {
             let mut fewer = lines.clone();
             fewer.drain(at..(at + size).min(lines.len()));
-            match shown(&fewer, bend) {
+            match shown(&fewer) {
                 Some(clash) => {
                     fewer.truncate(clash.line + 1);
                     (lines, found, dropped) = (fewer, clash, true);
@@ -32,12 +36,8 @@ pub fn smallest(mut lines: Vec<String>, bend: Option<Bend>) -> (Vec<String>, Cla
     (lines, found)
 }
 
-fn shown(lines: &[String], bend: Option<Bend>) -> Option<Clash> {
-    clash(lines, &judged(lines)?, bend)
-}
-
 /// The judge's answers, unless an advance goes too far.
-fn judged(lines: &[String]) -> Option<Vec<Option<String>>> {
+fn judged(lines: &[String]) -> Option<Answers> {
     let mut play = Play::new(Judge::new(Follow::Sheet));
     let mut answers = Vec::new();
     for line in lines {

@@ -77,14 +77,18 @@ pub fn read_line(line: &[u8]) -> Result<Option<Command>, Why> {
     Command::read(&words).map(Some)
 }
 
-/// Answers standard input on standard output.
-pub fn serve(side: impl Side) -> io::Result<()> {
+/// Answers a whole script.
+pub fn answer_all(side: impl Side, script: impl BufRead, mut to: impl Write) -> io::Result<()> {
     let mut play = Play::new(side);
-    let mut out = io::BufWriter::new(io::stdout().lock());
-    for line in io::stdin().lock().split(b'\n') {
+    for line in script.split(b'\n') {
         if let Some(answer) = play.answer(&line?) {
-            writeln!(out, "{answer}")?;
+            writeln!(to, "{answer}")?;
         }
     }
-    out.flush()
+    to.flush()
+}
+
+/// Answers standard input on standard output.
+pub fn serve(side: impl Side) -> io::Result<()> {
+    answer_all(side, io::stdin().lock(), io::BufWriter::new(io::stdout().lock()))
 }

@@ -15,6 +15,19 @@ pub enum Why {
     LineTooLong,
 }
 
+impl Why {
+    pub const ALL: [Self; 8] = [
+        Self::UnknownCommand,
+        Self::UnknownKey,
+        Self::UnknownName,
+        Self::MissingWord,
+        Self::ExtraWord,
+        Self::MalformedNumber,
+        Self::NumberTooLarge,
+        Self::LineTooLong,
+    ];
+}
+
 impl fmt::Display for Why {
     fn fmt(&self, f: &mut fmt::Formatter) -> fmt::Result {
         f.write_str(match self {
