@@ -15,7 +15,7 @@ use Rattle.tick.specs.declared.events.Events.{Events}
 use Rattle.tick.specs.declared.outputs.Outputs.{Outputs}
 use Rattle.tick.specs.declared.setting.Setting.{Setting}
 use Rattle.tick.specs.Outputs.{outsOf, Wrote, reapplied, strobed}
-use Rattle.tick.specs.Tick.{raised, flagLog}
+use Rattle.tick.specs.Tick.{raised, flagEntry, flagLog}
 use Rattle.tick.proofs.Writes.{Put}
 use Rattle.tick.proofs.Ticks.{Flagged}
 use Rattle.counter.specs.declared.state.Timer.{Timer}
@@ -64,7 +64,7 @@ pub logs-captured : (t : Timer) (cycle : ℕ) (before : List ℕ) {s : Setting} 
     → up ≡ raised s e
     → i ≡ icrTo t (t .counter .count)
     → length before ≡ 110
-    → Flagged s e up (bitOr (t .flags .tifr) up) cycle 0 before to after
+    → Flagged (flagEntry s up (bitOr (t .flags .tifr) up)) (s .id) e cycle 0 before to after
     → Logs (captured t) cycle (record { timer = flagsTo i (bitOr (t .flags .tifr) up) (t .flags .timsk); log = record { bytes = after; len = to } })
 unfolding captured
 logs-captured t cycle before {s} {e} {up} {to} {after} es ee eu ei n f =

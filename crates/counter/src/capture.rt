@@ -6,6 +6,7 @@ use crate::state::Timer;
 use config::Clocks;
 use records::Log;
 use tick::events::Events;
+use tick::flags::put_flags;
 use wave::kinds::ICR;
 use wave::units::Cycle;
 ghost use mathlib.Core.Path.{_≡_};
@@ -55,7 +56,7 @@ impl Timer {
         let up = s.raised(e);
         let tifr = was.tifr | up;
         let mut bytes = [0u8; 110];
-        let to = s.put_flags(e, up, tifr, &mut bytes, 0, cycle);
+        let to = put_flags(e, s.flag_entry(up, tifr), s.id, &mut bytes, 0, cycle);
         let flags = Flags {
             tifr,
             timsk: was.timsk,

@@ -18,8 +18,8 @@ use Rattle.wave.specs.Count.{falls, topOf, hits, overflows, loads, atTop, atZer
 use Rattle.wave.specs.Distance.{space, ahead, gapAt, gap, moved}
 use Rattle.tick.specs.declared.setting.Moving.{Moving}
 use Rattle.tick.specs.declared.setting.Setting.{Setting}
-use Rattle.tick.specs.Outputs.{outputs, matches, matched}
-use Rattle.tick.specs.Tick.{eventsAt, raised, raises, flagLog, tickBy, tick, eventsOf}
+use Rattle.tick.specs.Outputs.{outputs, matchesOf, matched}
+use Rattle.tick.specs.Tick.{eventsAt, raised, raises, flagLogOf, tickBy, tick, eventsOf}
 use Rattle.tick.specs.Skip.{linear}
 use Rattle.tick.specs.Sound.{Steady, Sound}
 use Rattle.tick.specs.Law.{TickKeeps, StepKeeps}
@@ -46,7 +46,7 @@ cond-same true x = refl
 cond-same false x = refl
 
 pub tick-still : (s : Setting) (m : Moving) → Still (s .wave) m → tick s m ≡ record { moving = linear (s .wave) 1 m; log = [] }
-unfolding tickBy eventsAt outputs matches matched raised raises flagLog loads nextDirection linear
+unfolding tickBy eventsAt outputs matchesOf matched raised raises flagLogOf loads nextDirection linear
 tick-still s m q = simp (q .a, q .b, q .c, q .free .not-top, q .free .not-zero, q .free .no-overflow, q .free .next, cond-same, and-false, or-zero-r)
 
 -- ---- below the gap nothing happens

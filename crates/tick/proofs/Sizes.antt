@@ -14,8 +14,8 @@ use Rattle.tick.specs.declared.events.Events.{Events}
 use Rattle.tick.specs.declared.setting.Channel.{Channel}
 use Rattle.tick.specs.declared.setting.Moving.{Moving}
 use Rattle.tick.specs.declared.setting.Setting.{Setting}
-use Rattle.tick.specs.Outputs.{Outs, recorded, onPin, acted, matched, bottomed, matches, bottoms, outputs, outsOf}
-use Rattle.tick.specs.Tick.{raised, raises, flagEntry, triggerEntry, flagLog, tickBy, tick, eventsOf}
+use Rattle.tick.specs.Outputs.{Outs, recorded, onPin, acted, matched, bottomed, matchesOf, bottomsOf, matches, bottoms, outputs, outsOf}
+use Rattle.tick.specs.Tick.{raised, raises, flagEntry, triggerEntry, flagLogOf, flagLog, tickBy, tick, eventsOf}
 use Rattle.tick.proofs.Choices.{cond-all}
 
 -- ---- each channel's match, and its output at BOTTOM, makes at most one record
@@ -47,11 +47,11 @@ more : (c m n : ℕ) {a b : ℕ} → a ≤ b + m → b ≤ c + n → a ≤ c + (
 more c m n h k = omega arith
 
 matches-three : (s : Setting) (e : Events) (o : Outs) → length (matches s e o .log) ≤ length (o .log) + 3
-unfolding matches
+unfolding matchesOf
 matches-three s e o = more _ 1 2 (matched-one (s .c) 2 _ _ _ _) (more _ 1 1 (matched-one (s .b) 1 _ _ _ _) (matched-one (s .a) 0 o _ _ _))
 
 bottoms-three : (s : Setting) (o : Outs) → length (bottoms s o .log) ≤ length (o .log) + 3
-unfolding bottoms
+unfolding bottomsOf
 bottoms-three s o = more _ 1 2 (bottomed-one (s .c) 2 _) (more _ 1 1 (bottomed-one (s .b) 1 _) (bottomed-one (s .a) 0 o))
 
 outputs-six : (s : Setting) (e : Events) (o : Outs) → length (outputs s e o .log) ≤ length (o .log) + 6
@@ -65,7 +65,7 @@ only-one true e = omega arith
 only-one false e = omega arith
 
 flags-five : (s : Setting) (e : Events) (up tifr : ℕ) → length (flagLog s e up tifr) ≤ 5
-unfolding flagLog
+unfolding flagLogOf
 flags-five s e up tifr =
     let f = only-one (raises e) (flagEntry s up tifr) in
     let a = only-one (e .a) (triggerEntry 1 (s .id)) in

@@ -20,7 +20,7 @@ use Rattle.tick.specs.declared.outputs.Outputs.{Outputs}
 use Rattle.tick.specs.declared.setting.Moving.{Moving}
 use Rattle.tick.specs.declared.setting.Setting.{Setting}
 use Rattle.tick.specs.Outputs.{outputs, outsOf, Wrote}
-use Rattle.tick.specs.Tick.{eventsAt, eventsOf, raised, raises, flagEntry, triggerEntry, flagLog, tickBy, tick, Worked}
+use Rattle.tick.specs.Tick.{eventsAt, eventsOf, raised, raises, flagEntry, triggerEntry, flagLogOf, flagLog, tickBy, tick, Worked}
 use Rattle.tick.proofs.Law.{next-turns}
 use Rattle.tick.proofs.Writes.{Put, put-none, put-one, put-then}
 
@@ -40,25 +40,25 @@ no-entries false false true i c f ta tb tv ti h = absurd (true≢false h)
 no-entries false false false true c f ta tb tv ti h = absurd (true≢false h)
 no-entries false false false false c f ta tb tv ti h = rw h
 
-module _ (s : Setting) (e : Events) (up tifr cycle at : ℕ) (l : List ℕ) where
+module _ (flag : Entry) (id : ℕ) (e : Events) (cycle at : ℕ) (l : List ℕ) where
   abbrev pub Flagged : ℕ → List ℕ → Type 0
-  Flagged to after = (to ≡ at + length (recordsOf cycle (flagLog s e up tifr))) × (after ≡ sets l at (recordsOf cycle (flagLog s e up tifr))) × (to ≤ at + 50)
+  Flagged to after = (to ≡ at + length (recordsOf cycle (flagLogOf flag id e))) × (after ≡ sets l at (recordsOf cycle (flagLogOf flag id e))) × (to ≤ at + 50)
 
   -- where no flag is raised, and where one is
   pub flags-none : (e .overflow || e .a || e .b || e .capture || e .c) ≡ false → Flagged at l
-  unfolding flagLog raises
+  unfolding flagLogOf raises
   flags-none h =
       let p = put-none cycle at l in
-      let z = no-entries (e .overflow) (e .a) (e .b) (e .capture) (e .c) (flagEntry s up tifr) (triggerEntry 1 (s .id)) (triggerEntry 2 (s .id))
-      (triggerEntry 3 (s .id)) (triggerEntry 4 (s .id)) h in
+      let z = no-entries (e .overflow) (e .a) (e .b) (e .capture) (e .c) flag (triggerEntry 1 id) (triggerEntry 2 id)
+      (triggerEntry 3 id) (triggerEntry 4 id) h in
       rw z (p .next, p .area, omega arith)
 
-  pub flags-put : {f ta tb tv ti : Entry} {n₁ n₂ n₃ n₄ n₅ : ℕ} {l₁ l₂ l₃ l₄ l₅ : List ℕ} → (e .overflow || e .a || e .b || e .capture || e .c) ≡ true
-      → f ≡ flagEntry s up tifr → ta ≡ triggerEntry 1 (s .id) → tb ≡ triggerEntry 2 (s .id) → tv ≡ triggerEntry 3 (s .id) → ti ≡ triggerEntry 4 (s .id)
-      → (n₁ ≡ at + 10) × (l₁ ≡ sets l at (recordOf cycle f)) → Also cycle n₁ l₁ (e .a) ta n₂ l₂ → Also cycle n₂ l₂ (e .b) tb n₃ l₃
+  pub flags-put : {ta tb tv ti : Entry} {n₁ n₂ n₃ n₄ n₅ : ℕ} {l₁ l₂ l₃ l₄ l₅ : List ℕ} → (e .overflow || e .a || e .b || e .capture || e .c) ≡ true
+      → ta ≡ triggerEntry 1 id → tb ≡ triggerEntry 2 id → tv ≡ triggerEntry 3 id → ti ≡ triggerEntry 4 id
+      → (n₁ ≡ at + 10) × (l₁ ≡ sets l at (recordOf cycle flag)) → Also cycle n₁ l₁ (e .a) ta n₂ l₂ → Also cycle n₂ l₂ (e .b) tb n₃ l₃
       → Also cycle n₃ l₃ (e .overflow) tv n₄ l₄ → Also cycle n₄ l₄ (e .capture) ti n₅ l₅ → Flagged n₅ l₅
-  unfolding flagLog raises
-  flags-put {f} {ta} {tb} {tv} {ti} {n₁} {n₂} {n₃} {n₄} {n₅} {l₁} {l₂} {l₃} {l₄} {l₅} h ef ea eb ev ei p a b v i =
+  unfolding flagLogOf raises
+  flags-put {ta} {tb} {tv} {ti} {n₁} {n₂} {n₃} {n₄} {n₅} {l₁} {l₂} {l₃} {l₄} {l₅} h ea eb ev ei p a b v i =
       let pa : Put (only (e .a) ta) cycle n₁ l₁ n₂ l₂ = record { next = a .0; area = a .1 } in
       let pb : Put (only (e .b) tb) cycle n₂ l₂ n₃ l₃ = record { next = b .0; area = b .1 } in
       let pv : Put (only (e .overflow) tv) cycle n₃ l₃ n₄ l₄ = record { next = v .0; area = v .1 } in
@@ -68,12 +68,12 @@ module _ (s : Setting) (e : Events) (up tifr cycle at : ℕ) (l : List ℕ) wher
       let mb = also-most cycle n₂ (e .b) tb (b .0) in
       let mv = also-most cycle n₃ (e .overflow) tv (v .0) in
       let mi = also-most cycle n₄ (e .capture) ti (i .0) in
-      rw (h, ← ef, ← ea, ← eb, ← ev, ← ei) (k .next, k .area, omega (arith, p .0))
+      rw (h, ← ea, ← eb, ← ev, ← ei) (k .next, k .area, omega (arith, p .0))
 
 -- a tick, from what its parts promise
 module _ (s : Setting) (m : Moving) (e : Events) (cycle at : ℕ) (l : List ℕ) {top up count to : ℕ} {d : ℤ} {active : List ℕ} {r : Outputs} {k n : List ℕ} where
   pub tick-is : Turns (m .counter .direction) → top ≡ topOf (s .wave) (getD (m .ocr) 0 0) → e ≡ eventsAt s m top → up ≡ raised s e
-      → (Wrote (outputs s e (outsOf m)) cycle at l r k) × (r .to ≤ at + 60) → Flagged s e up (bitOr (m .tifr) up) cycle (r .to) k to n
+      → (Wrote (outputs s e (outsOf m)) cycle at l r k) × (r .to ≤ at + 60) → Flagged (flagEntry s up (bitOr (m .tifr) up)) (s .id) e cycle (r .to) k to n
       → count ≡ nextCount (s .wave) (m .counter) top
       → d ≡ nextDirection (s .wave) (toZ w32 (ofZ w32 (m .counter .direction))) (e .top) (e .zero) → active ≡ cond (e .load) (s .buffer) (m .ocr)
       → Worked (tick s m) cycle at l (record {

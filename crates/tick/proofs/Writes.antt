@@ -3,7 +3,7 @@ use Prim.Native.Nat.{ℕ, _+_}
 use native.Mathlib.Omega.{arith}
 use native.Mathlib.Nat.{add-zero}
 use mathlib.Core.Path.{_≡_, refl, sym, ap, subst, _∙_}
-use mathlib.Core.Bool.{Bool, true, false, cond, _&&_}
+use mathlib.Core.Bool.{Bool, true, false, cond, _&&_, _||_, true≢false}
 use mathlib.Core.List.{List, [], _∷_, _++_, append-nil, append-assoc}
 use lib.ListN.{length, getD, set, length-append}
 use lib.Seq.{sets}
@@ -19,7 +19,7 @@ use Rattle.tick.specs.declared.outputs.Outputs.{Outputs}
 use Rattle.tick.specs.declared.setting.Channel.{Channel}
 use Rattle.tick.specs.declared.setting.Setting.{Setting}
 use Rattle.tick.specs.declared.setting.Drives.{Drives}
-use Rattle.tick.specs.Outputs.{Outs, bit, pinEntry, driveTo, recorded, onPin, applied, acted, levelOf, matched, bottomed, matches, bottoms, outputs, begun, Wrote, reapplied, strobed}
+use Rattle.tick.specs.Outputs.{Outs, bit, pinEntry, driveTo, recorded, onPin, applied, acted, levelOf, matched, bottomed, matchesOf, bottomsOf, matches, bottoms, outputs, begun, Wrote, reapplied, strobed}
 
 -- entries written from a place of the area on: the place after them, and the area
 pub record Put (es : List Entry) (cycle at : ℕ) (before : List ℕ) (to : ℕ) (after : List ℕ) : Type 0 where
@@ -92,11 +92,11 @@ bottomed-appends c ch =
     record { shifts = λ l o. after-cond (leb 2 (c .comx)) l _ _ (acted-appends c ch (bit (eqb (c .comx) 2)) .shifts l o) refl }
 
 pub bottoms-appends : (s : Setting) → Appends (bottoms s)
-unfolding bottoms
+unfolding bottomsOf
 bottoms-appends s = then-appends (then-appends (bottomed-appends (s .a) 0) (bottomed-appends (s .b) 1)) (bottomed-appends (s .c) 2)
 
 pub matches-appends : (s : Setting) (e : Events) → Appends (matches s e)
-unfolding matches
+unfolding matchesOf
 matches-appends s e =
     then-appends
     (then-appends (matched-appends (s .wave .kind) (s .a) 0 (e .a) (e .rises)) (matched-appends (s .wave .kind) (s .b) 1 (e .b) (e .rises)))
@@ -142,25 +142,26 @@ module _ (r : Outputs) (pin ch enable value cycle : ℕ) (l : List ℕ) where
       rw h (record { oc = refl; drives = d; to = k .next; area = k .area })
 
 -- three matches in a row, three outputs at BOTTOM, and three drives reapplied
-module _ (s : Setting) (r₀ : Outputs) {cycle : ℕ} {r₁ r₂ r₃ : Outputs} {l₀ l₁ l₂ l₃ : List ℕ} where
-  pub matches-wrote : (e : Events) → Wrote (matched (s .wave .kind) (s .a) 0 (e .a) (e .rises) (begun r₀)) cycle (r₀ .to) l₀ r₁ l₁
-      → Wrote (matched (s .wave .kind) (s .b) 1 (e .b) (e .rises) (begun r₁)) cycle (r₁ .to) l₁ r₂ l₂
-      → Wrote (matched (s .wave .kind) (s .c) 2 (e .c) (e .rises) (begun r₂)) cycle (r₂ .to) l₂ r₃ l₃
-      → Wrote (matches s e (begun r₀)) cycle (r₀ .to) l₀ r₃ l₃
-  unfolding matches
-  matches-wrote e u v w =
-      wrote-then (matched-appends (s .wave .kind) (s .c) 2 (e .c) (e .rises)) (wrote-then (matched-appends (s .wave .kind) (s .b) 1 (e .b) (e .rises)) u v) w
+module _ (a b c : Channel) (r₀ : Outputs) {cycle : ℕ} {r₁ r₂ r₃ : Outputs} {l₀ l₁ l₂ l₃ : List ℕ} where
+  pub matches-wrote : (kind : ℕ) (e : Events) → Wrote (matched kind a 0 (e .a) (e .rises) (begun r₀)) cycle (r₀ .to) l₀ r₁ l₁
+      → Wrote (matched kind b 1 (e .b) (e .rises) (begun r₁)) cycle (r₁ .to) l₁ r₂ l₂
+      → Wrote (matched kind c 2 (e .c) (e .rises) (begun r₂)) cycle (r₂ .to) l₂ r₃ l₃
+      → Wrote (matchesOf kind a b c e (begun r₀)) cycle (r₀ .to) l₀ r₃ l₃
+  unfolding matchesOf
+  matches-wrote kind e u v w =
+      wrote-then (matched-appends kind c 2 (e .c) (e .rises)) (wrote-then (matched-appends kind b 1 (e .b) (e .rises)) u v) w
 
-  pub bottoms-wrote : Wrote (bottomed (s .a) 0 (begun r₀)) cycle (r₀ .to) l₀ r₁ l₁ → Wrote (bottomed (s .b) 1 (begun r₁)) cycle (r₁ .to) l₁ r₂ l₂
-      → Wrote (bottomed (s .c) 2 (begun r₂)) cycle (r₂ .to) l₂ r₃ l₃ → Wrote (bottoms s (begun r₀)) cycle (r₀ .to) l₀ r₃ l₃
-  unfolding bottoms
-  bottoms-wrote u v w = wrote-then (bottomed-appends (s .c) 2) (wrote-then (bottomed-appends (s .b) 1) u v) w
+  pub bottoms-wrote : Wrote (bottomed a 0 (begun r₀)) cycle (r₀ .to) l₀ r₁ l₁ → Wrote (bottomed b 1 (begun r₁)) cycle (r₁ .to) l₁ r₂ l₂
+      → Wrote (bottomed c 2 (begun r₂)) cycle (r₂ .to) l₂ r₃ l₃ → Wrote (bottomsOf a b c (begun r₀)) cycle (r₀ .to) l₀ r₃ l₃
+  unfolding bottomsOf
+  bottoms-wrote u v w = wrote-then (bottomed-appends c 2) (wrote-then (bottomed-appends b 1) u v) w
 
-  pub reapplied-wrote : Wrote (applied (s .a) 0 (begun r₀)) cycle (r₀ .to) l₀ r₁ l₁ → Wrote (applied (s .b) 1 (begun r₁)) cycle (r₁ .to) l₁ r₂ l₂
-      → Wrote (applied (s .c) 2 (begun r₂)) cycle (r₂ .to) l₂ r₃ l₃ → Wrote (reapplied s (begun r₀)) cycle (r₀ .to) l₀ r₃ l₃
-  unfolding reapplied
-  reapplied-wrote u v w =
-      wrote-then (on-pin-appends (s .c .wire) 2 (bit (s .c .enabled))) (wrote-then (on-pin-appends (s .b .wire) 1 (bit (s .b .enabled))) u v) w
+pub reapplied-wrote : (s : Setting) (r₀ : Outputs) {cycle : ℕ} {r₁ r₂ r₃ : Outputs} {l₀ l₁ l₂ l₃ : List ℕ}
+    → Wrote (applied (s .a) 0 (begun r₀)) cycle (r₀ .to) l₀ r₁ l₁ → Wrote (applied (s .b) 1 (begun r₁)) cycle (r₁ .to) l₁ r₂ l₂
+    → Wrote (applied (s .c) 2 (begun r₂)) cycle (r₂ .to) l₂ r₃ l₃ → Wrote (reapplied s (begun r₀)) cycle (r₀ .to) l₀ r₃ l₃
+unfolding reapplied
+reapplied-wrote s r₀ u v w =
+    wrote-then (on-pin-appends (s .c .wire) 2 (bit (s .c .enabled))) (wrote-then (on-pin-appends (s .b .wire) 1 (bit (s .b .enabled))) u v) w
 
 -- the outputs after a tick, at BOTTOM and elsewhere
 module _ (s : Setting) (e : Events) (o : Outs) {cycle at : ℕ} {l m : List ℕ} {q : Outputs} where
@@ -173,3 +174,14 @@ module _ (s : Setting) (e : Events) (o : Outs) {cycle at : ℕ} {l m : List ℕ}
   pub outputs-else : e .bottom ≡ false → Wrote (matches s e o) cycle at l q m → Wrote (outputs s e o) cycle at l q m
   unfolding outputs
   outputs-else h v = subst (λ (b : Bool). Wrote (cond b (bottoms s (matches s e o)) (matches s e o)) cycle at l q m) (sym h) v
+
+-- where no match acts and the count does not go to BOTTOM, nothing is done
+no-match : (p q r : Bool) → p || q || r ≡ false → (p ≡ false) × (q ≡ false) × (r ≡ false)
+no-match false false false h = (refl, refl, refl)
+no-match true q r h = absurd (true≢false h)
+no-match false true r h = absurd (true≢false h)
+no-match false false true h = absurd (true≢false h)
+
+pub outputs-none : (s : Setting) (e : Events) (o : Outs) → e .bottom ≡ false → (e .a && s .a .enabled) || (e .b && s .b .enabled) || (e .c && s .c .enabled) ≡ false → outputs s e o ≡ o
+unfolding outputs matchesOf matched
+outputs-none s e o h k = let z = no-match (e .a && s .a .enabled) (e .b && s .b .enabled) (e .c && s .c .enabled) k in simp (h, z .0, z .1, z .2)

@@ -72,16 +72,21 @@ matched kind c ch hit rises o = cond (hit && c .enabled) (acted c ch (levelOf c 
 unfoldable pub bottomed : Channel → ℕ → Outs → Outs
 bottomed c ch o = cond (leb 2 (c .comx)) (acted c ch (bit (eqb (c .comx) 2)) o) o
 
--- the outputs after a tick's matches A, B, C and, at BOTTOM, its outputs A, B, C
-unfoldable pub matches : Setting → Events → Outs → Outs
-matches s e o =
-    matched (s .wave .kind) (s .c) 2 (e .c) (e .rises)
-    (matched (s .wave .kind) (s .b) 1 (e .b) (e .rises)
-    (matched (s .wave .kind) (s .a) 0 (e .a) (e .rises) o))
+-- the outputs after the matches of three channels, A, B, C
+unfoldable pub matchesOf : ℕ → Channel → Channel → Channel → Events → Outs → Outs
+matchesOf kind a b c e o = matched kind c 2 (e .c) (e .rises) (matched kind b 1 (e .b) (e .rises) (matched kind a 0 (e .a) (e .rises) o))
 
--- the BOTTOM outputs A, B, C
-unfoldable pub bottoms : Setting → Outs → Outs
-bottoms s o = bottomed (s .c) 2 (bottomed (s .b) 1 (bottomed (s .a) 0 o))
+-- the outputs of three channels at BOTTOM, A, B, C
+unfoldable pub bottomsOf : Channel → Channel → Channel → Outs → Outs
+bottomsOf a b c o = bottomed c 2 (bottomed b 1 (bottomed a 0 o))
+
+-- a tick's matches
+abbrev pub matches : Setting → Events → Outs → Outs
+matches s e o = matchesOf (s .wave .kind) (s .a) (s .b) (s .c) e o
+
+-- a tick's outputs at BOTTOM
+abbrev pub bottoms : Setting → Outs → Outs
+bottoms s o = bottomsOf (s .a) (s .b) (s .c) o
 
 -- all outputs of a tick: the matches, then in F at TOP the BOTTOM outputs
 unfoldable pub outputs : Setting → Events → Outs → Outs

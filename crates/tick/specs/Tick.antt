@@ -66,13 +66,17 @@ unfoldable pub triggerEntry : ℕ → ℕ → Entry
 triggerEntry k id = record { kind = 2; body = k * 4096 + id * 16 }
 
 -- one flag record if any flag is raised, then the triggers 1 to 4
-unfoldable pub flagLog : Setting → Events → ℕ → ℕ → List Entry
-flagLog s e up tifr =
-    only (raises e) (flagEntry s up tifr)
-    ++ only (e .a) (triggerEntry 1 (s .id))
-    ++ only (e .b) (triggerEntry 2 (s .id))
-    ++ only (e .overflow) (triggerEntry 3 (s .id))
-    ++ only (e .capture) (triggerEntry 4 (s .id))
+unfoldable pub flagLogOf : Entry → ℕ → Events → List Entry
+flagLogOf flag id e =
+    only (raises e) flag
+    ++ only (e .a) (triggerEntry 1 id)
+    ++ only (e .b) (triggerEntry 2 id)
+    ++ only (e .overflow) (triggerEntry 3 id)
+    ++ only (e .capture) (triggerEntry 4 id)
+
+-- those of a tick that raises some bits and leaves TIFR so
+abbrev pub flagLog : Setting → Events → ℕ → ℕ → List Entry
+flagLog s e up tifr = flagLogOf (flagEntry s up tifr) (s .id) e
 
 -- what a tick leaves, and its records in order
 pub record Step : Type 0 where

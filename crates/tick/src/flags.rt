@@ -11,7 +11,7 @@ ghost use mathlib.Core.Bool.{cond};
 ghost use lib.ListN.{length};
 ghost use lib.Seq.{sets};
 ghost use Rattle.records.specs.Records.{recordsOf};
-ghost use Rattle.tick.specs.Tick.{raised, line, lines, flagEntry, triggerEntry, flagLog};
+ghost use Rattle.tick.specs.Tick.{raised, line, lines, flagEntry, triggerEntry, flagLogOf};
 
 // A mask where it is wanted, else no bit.
 pub fn masked(wanted: bool, mask: u8) -> u8
@@ -61,6 +61,9 @@ impl Setting {
         let b = self.b;
         let c = self.c;
         let active = tifr & self.timsk;
+        if active == 0 {
+            return 0;
+        }
         line(active, self.tov) * 128
             + line(active, a.flag) * 64
             + line(active, b.flag) * 32
@@ -77,28 +80,20 @@ impl Setting {
             body: (up as u16) * 256 + (self.lines(tifr) as u16),
         }
     }
+}
 
-    // Writes a tick's flag record and its triggers; yields the place after them.
-    pub fn put_flags(
-        self,
-        e: Events,
-        up: u8,
-        tifr: u8,
-        area: &mut [u8],
-        at: usize,
-        cycle: Cycle,
-    ) -> usize
-        requires { ⌜ at + 50 ≤ length (now area) ⌝ }
-        ensures { λ r. ⌜ (r ≡ at + length (recordsOf (cycle .0) (flagLog self e up tifr))) × (now (area .exit) ≡ sets (now (area .entry)) at (recordsOf (cycle .0) (flagLog self e up tifr))) × (r ≤ at + 50) ⌝ }
-    {
-        if e.overflow | e.a | e.b | e.capture | e.c {
-            let flagged = records::put(area, at, cycle.0, self.flag_entry(up, tifr));
-            let first = records::also(area, flagged, cycle.0, e.a, trigger_entry(1, self.id));
-            let second = records::also(area, first, cycle.0, e.b, trigger_entry(2, self.id));
-            let third = records::also(area, second, cycle.0, e.overflow, trigger_entry(3, self.id));
-            records::also(area, third, cycle.0, e.capture, trigger_entry(4, self.id))
-        } else {
-            at
-        }
+// Writes a flag entry's record, if a flag is raised, and the triggers; yields the place after them.
+pub fn put_flags(e: Events, flag: Entry, id: u8, area: &mut [u8], at: usize, cycle: Cycle) -> usize
+    requires { ⌜ at + 50 ≤ length (now area) ⌝ }
+    ensures { λ r. ⌜ (r ≡ at + length (recordsOf (cycle .0) (flagLogOf flag id e))) × (now (area .exit) ≡ sets (now (area .entry)) at (recordsOf (cycle .0) (flagLogOf flag id e))) × (r ≤ at + 50) ⌝ }
+{
+    if e.overflow | e.a | e.b | e.capture | e.c {
+        let flagged = records::put(area, at, cycle.0, flag);
+        let first = records::also(area, flagged, cycle.0, e.a, trigger_entry(1, id));
+        let second = records::also(area, first, cycle.0, e.b, trigger_entry(2, id));
+        let third = records::also(area, second, cycle.0, e.overflow, trigger_entry(3, id));
+        records::also(area, third, cycle.0, e.capture, trigger_entry(4, id))
+    } else {
+        at
     }
 }

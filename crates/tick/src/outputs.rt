@@ -15,7 +15,7 @@ ghost use Prim.Native.Nat.{_+_, _<_, _≤_};
 ghost use mathlib.Core.Path.{_≡_};
 ghost use mathlib.Core.Bool.{cond};
 ghost use lib.ListN.{length};
-ghost use Rattle.tick.specs.Outputs.{bit, pinEntry, driveTo, levelOf, recorded, applied, acted, matched, bottomed, matches, bottoms, outputs, outsOf, begun, Wrote, reapplied, strobed};
+ghost use Rattle.tick.specs.Outputs.{bit, pinEntry, driveTo, levelOf, recorded, applied, acted, matched, bottomed, matchesOf, bottomsOf, outputs, outsOf, begun, Wrote, reapplied, strobed};
 
 // The outputs on their way through a call: levels, drives last recorded, and the place of the next record.
 pub struct Outputs {
@@ -167,48 +167,63 @@ impl Outputs {
     }
 }
 
+// The outputs after a tick's matches A, B and C, in a kind of mode. It takes the channels alone, since what is taken by value is copied.
+pub fn matches(
+    kind: u8,
+    a: Channel,
+    b: Channel,
+    c: Channel,
+    e: Events,
+    start: Outputs,
+    area: &mut [u8],
+    cycle: Cycle,
+) -> Outputs
+    requires { ⌜ start .to + 30 ≤ length (now area) ⌝ }
+    ensures { λ r. ⌜ Wrote (matchesOf kind a b c e (begun start)) (cycle .0) (start .to) (now (area .entry)) r (now (area .exit)) × (r .to ≤ start .to + 30) ⌝ }
+{
+    let first = start.matched(kind, a, 0, e.a, e.rises, area, cycle);
+    let second = first.matched(kind, b, 1, e.b, e.rises, area, cycle);
+    second.matched(kind, c, 2, e.c, e.rises, area, cycle)
+}
+
+// The outputs A, B and C at BOTTOM.
+pub fn bottoms(
+    a: Channel,
+    b: Channel,
+    c: Channel,
+    start: Outputs,
+    area: &mut [u8],
+    cycle: Cycle,
+) -> Outputs
+    requires { ⌜ start .to + 30 ≤ length (now area) ⌝ }
+    ensures { λ r. ⌜ Wrote (bottomsOf a b c (begun start)) (cycle .0) (start .to) (now (area .entry)) r (now (area .exit)) × (r .to ≤ start .to + 30) ⌝ }
+{
+    let first = start.bottomed(a, 0, area, cycle);
+    let second = first.bottomed(b, 1, area, cycle);
+    second.bottomed(c, 2, area, cycle)
+}
+
 impl Setting {
-    // The outputs after a tick's matches A, B and C.
-    pub fn matches(self, e: Events, start: Outputs, area: &mut [u8], cycle: Cycle) -> Outputs
-        requires { ⌜ start .to + 30 ≤ length (now area) ⌝ }
-        ensures { λ r. ⌜ Wrote (matches self e (begun start)) (cycle .0) (start .to) (now (area .entry)) r (now (area .exit)) × (r .to ≤ start .to + 30) ⌝ }
-    {
-        let wave = self.wave;
-        let kind = wave.kind;
-        let a = self.a;
-        let b = self.b;
-        let c = self.c;
-        let first = start.matched(kind, a, 0, e.a, e.rises, area, cycle);
-        let second = first.matched(kind, b, 1, e.b, e.rises, area, cycle);
-        second.matched(kind, c, 2, e.c, e.rises, area, cycle)
-    }
-
-    // The outputs A, B and C at BOTTOM.
-    pub fn bottoms(self, start: Outputs, area: &mut [u8], cycle: Cycle) -> Outputs
-        requires { ⌜ start .to + 30 ≤ length (now area) ⌝ }
-        ensures { λ r. ⌜ Wrote (bottoms self (begun start)) (cycle .0) (start .to) (now (area .entry)) r (now (area .exit)) × (r .to ≤ start .to + 30) ⌝ }
-    {
-        let a = self.a;
-        let b = self.b;
-        let c = self.c;
-        let first = start.bottomed(a, 0, area, cycle);
-        let second = first.bottomed(b, 1, area, cycle);
-        second.bottomed(c, 2, area, cycle)
-    }
-
-    // The outputs after a tick. Where no COM field is set nothing acts.
+    // The outputs after a tick. Most ticks drive no pin: that is tested first.
     pub fn outputs(self, e: Events, m: Moving, area: &mut [u8], at: usize, cycle: Cycle) -> Outputs
         requires { ⌜ at + 60 ≤ length (now area) ⌝ }
         ensures { λ r. ⌜ Wrote (outputs self e (outsOf m)) (cycle .0) at (now (area .entry)) r (now (area .exit)) × (r .to ≤ at + 60) ⌝ }
     {
         let oc = m.oc;
         let drives = m.drives;
+        let wave = self.wave;
+        let kind = wave.kind;
+        let a = self.a;
+        let b = self.b;
+        let c = self.c;
         let start = Outputs { oc, drives, to: at };
-        let matched = self.matches(e, start, area, cycle);
         if e.bottom {
-            self.bottoms(matched, area, cycle)
+            let matched = matches(kind, a, b, c, e, start, area, cycle);
+            bottoms(a, b, c, matched, area, cycle)
+        } else if (e.a & a.enabled) | (e.b & b.enabled) | (e.c & c.enabled) {
+            matches(kind, a, b, c, e, start, area, cycle)
         } else {
-            matched
+            start
         }
     }
 
@@ -231,8 +246,12 @@ impl Setting {
         ensures { λ r. ⌜ Wrote (strobed self e (begun start)) (cycle .0) (start .to) (now (area .entry)) r (now (area .exit)) × (r .to ≤ start .to + 30) ⌝ }
     {
         let wave = self.wave;
-        if wave.kind <= CTC {
-            self.matches(e, start, area, cycle)
+        let kind = wave.kind;
+        if kind <= CTC {
+            let a = self.a;
+            let b = self.b;
+            let c = self.c;
+            matches(kind, a, b, c, e, start, area, cycle)
         } else {
             start
         }

@@ -1,5 +1,6 @@
 // One tick, from the old count and the old TOP.
 
+use crate::flags::put_flags;
 use crate::setting::Moving;
 use crate::setting::Setting;
 use wave::count::Counter;
@@ -39,7 +40,7 @@ impl Setting {
         let up = self.raised(e);
         let tifr = m.tifr | up;
         let outs = self.outputs(e, m, area, at, cycle);
-        let to = self.put_flags(e, up, tifr, area, outs.to, cycle);
+        let to = put_flags(e, self.flag_entry(up, tifr), self.id, area, outs.to, cycle);
         let counter = Counter {
             count: wave.next_count(was, top),
             direction: wave.next_direction(direction, e.top, e.zero),
