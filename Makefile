@@ -4,6 +4,8 @@
 # make oracle MCS=../MCS                          the Rust as judge; MCS is a checkout of GabePurc/MCS at fb281a0906
 # make oracle MCS=../MCS CALLS=10000000 SEED=7    a longer comparison, from another seed
 # make oracle MCS=../MCS BENCH=                   without the bench program: needs Rust alone
+# make bindings [MCS=../MCS]                      the static library, the Rust crate over it, and its tests
+# make speed MCS=../MCS                           the timer beside the Rust, in nanoseconds and instructions
 
 SCRIPT ?= examples/door.script
 MCS ?=
@@ -12,7 +14,9 @@ SEED ?= 1
 BENCH ?= target/bin/bench
 ORACLE := oracle/target/release
 
-.PHONY: run test oracle against-bench
+CARGO := MCS="$(abspath $(MCS))" cargo
+
+.PHONY: run test oracle against-bench library bindings speed
 .DELETE_ON_ERROR:
 
 # Each command of the script with its answer under it; the story's answers are held to those that are stored.
@@ -32,7 +36,7 @@ target/bin/bench: crates.txt $(shell find crates -type f ! -path '*/must-fail/*'
 # oracle/README.md says how to read what it prints.
 oracle:
 	@test -n "$(MCS)" || { echo "oracle: name a checkout of GabePurc/MCS at fb281a0906, as in: make oracle MCS=../MCS" >&2; exit 1; }
-	MCS="$(abspath $(MCS))" cargo build --release --offline --manifest-path oracle/Cargo.toml --target-dir oracle/target
+	$(CARGO) build --release --offline --manifest-path oracle/Cargo.toml --target-dir oracle/target
 	$(ORACLE)/compare --sources "$(MCS)"
 	oracle/check.sh
 	$(ORACLE)/compare --bends $(SEED)
@@ -42,3 +46,22 @@ oracle:
 # The bench program against the Rust, when the oracle is built.
 against-bench: $(BENCH)
 	$(ORACLE)/compare --program $(BENCH) $(CALLS) $(SEED)
+
+library:
+	rt staticlib shell
+
+# With MCS the crate is also compared with the Rust; bindings/README.md has more.
+bindings: library
+	cargo test --release --offline --manifest-path bindings/rust/Cargo.toml
+	$(CC) -std=c11 -Wall -Wextra -Werror -o target/t1 bindings/c/t1.c target/staticlib/libshell.a
+	target/t1
+ifneq ($(MCS),)
+	$(CARGO) build --release --offline --manifest-path bindings/against/Cargo.toml
+	bindings/against/target/release/against $(CALLS) $(SEED)
+endif
+
+# docs/SPEED.md says what is measured, and how.
+speed: library
+	@test -n "$(MCS)" || { echo "speed: name a checkout of GabePurc/MCS at fb281a0906, as in: make speed MCS=../MCS" >&2; exit 1; }
+	$(CARGO) build --release --offline --manifest-path speed/Cargo.toml
+	speed/target/release/speed

@@ -14,37 +14,17 @@ use crate::words::low8;
 use crate::words::low16;
 use crate::words::skip;
 use config::Capture;
-use config::Clocks;
 use config::Compare;
 use config::Config;
-use config::Layout;
 use config::Wire;
 use counter::state::Timer;
 ghost use Rattle.bench.specs.Bench.{Sound};
 
 // A pin, or none.
 fn wire(n: u64) -> Wire {
-    if n < ABSENT {
-        Wire::Pin(low8(n))
-    } else {
-        Wire::Absent
-    }
-}
-
-// A layout by its place in their list.
-fn layout(n: u64) -> Layout {
-    match n {
-        0 => Layout::Split,
-        1 => Layout::Single,
-        _ => Layout::Bare,
-    }
-}
-
-// A table of clocks by its place in their list.
-fn clocks(n: u64) -> Clocks {
-    match n {
-        0 => Clocks::Sync,
-        _ => Clocks::Timer2,
+    Wire {
+        present: n < ABSENT,
+        pin: low8(n),
     }
 }
 
@@ -85,7 +65,7 @@ fn config(keys: Keys) -> Config {
     Config {
         id: low8(v[0]),
         wide: v[1] == 1,
-        layout: layout(v[2]),
+        layout: low8(v[2]),
         tccra: low16(v[3]),
         tccrb: low16(v[4]),
         foc: low16(v[5]),
@@ -96,7 +76,7 @@ fn config(keys: Keys) -> Config {
         icr: capture(v[11], v[15], v[19]),
         tov: low8(v[12]),
         t: wire(v[20]),
-        clocks: clocks(v[21]),
+        clocks: low8(v[21]),
         group: low8(v[22]),
         prr: low16(v[23]),
         sleeprun: low8(v[24]),

@@ -36,7 +36,7 @@ fn three(page: &mut Page, from: usize, label: &[u8], config: Config, values: [u3
 // Puts a label and a channel's drive, `-` where it has no pin.
 fn driven(page: &mut Page, from: usize, label: &[u8], c: Compare, enable: u8, value: u8) -> usize {
     let wire = c.wire;
-    if wire.is_pin() {
+    if wire.present {
         let at = number(page, from, label, enable as u64);
         return number(page, at, b"", value as u64);
     }

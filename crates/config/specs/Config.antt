@@ -3,38 +3,24 @@ use Prim.Native.Nat.{ℕ, _+_}
 use mathlib.Core.Bool.{Bool, true, false, cond, not, _&&_, _||_}
 use mathlib.Core.Path.{_≡_, refl}
 use mathlib.Core.List.{List, []}
-use lib.Dec.{eqb}
+use lib.Dec.{eqb, leb}
 use Rattle.config.specs.declared.Capture.{Capture}
-use Rattle.config.specs.declared.Clocks.the-variants.{Sync}
 use Rattle.config.specs.declared.Compare.{Compare}
 use Rattle.config.specs.declared.Config.{Config}
-use Rattle.config.specs.declared.Layout.{Layout}
-use Rattle.config.specs.declared.Layout.the-variants.{Split, Single, Bare}
 use Rattle.config.specs.declared.Wire.{Wire}
-use Rattle.config.specs.declared.Wire.the-variants.{Pin, Absent}
 use Rattle.config.specs.Few.{also, has, distinct, within}
 
--- two control registers, TCCRnA and TCCRnB
-abbrev pub split : Layout → Bool
-split Split = true
-split Single = false
-split Bare = false
+-- layout 0: two control registers, TCCRnA and TCCRnB; layout 1 is the single one
+abbrev pub split : ℕ → Bool
+split layout = eqb layout 0
 
--- single without WGM
-abbrev pub bare : Layout → Bool
-bare Split = false
-bare Single = false
-bare Bare = true
+-- layout 2: single without WGM
+abbrev pub bare : ℕ → Bool
+bare layout = eqb layout 2
 
--- there is a pin
-abbrev pub wired : Wire → Bool
-wired (Pin p) = true
-wired Absent = false
-
--- the pin's number, 0 where there is none
-abbrev pub pinOf : Wire → ℕ
-pinOf (Pin p) = p
-pinOf Absent = 0
+-- one of the three layouts, and one of the two clock tables: 0 is `CS_SYNC`, 1 `CS_TIMER2`
+unfoldable pub choiceRule : Config → Bool
+choiceRule c = leb (c .layout) 2 && leb (c .clocks) 1
 
 -- ICR and channel C only when wide
 unfoldable pub widthRule : Config → Bool
@@ -97,7 +83,7 @@ flagRule c =
 
 -- a pin more, where there is one
 abbrev pub pinned : Wire → List ℕ → List ℕ
-pinned w l = also (wired w) (pinOf w) l
+pinned w l = also (w .present) (w .pin) l
 
 -- the pins that the timer has
 unfoldable pub pinsOf : Config → List ℕ
@@ -106,27 +92,31 @@ pinsOf c = pinned (c .t) (pinned (c .icr .wire) (pinned (c .c .wire) (pinned (c 
 -- pins at most 247, distinct, a compare pin only with its compare, a capture pin only with ICR
 unfoldable pub pinRule : Config → Bool
 pinRule c =
-    (c .a .present || not (wired (c .a .wire))) && (c .b .present || not (wired (c .b .wire))) && (c .c .present || not (wired (c .c .wire)))
-    && (c .icr .present || not (wired (c .icr .wire))) && distinct (pinsOf c) && within 247 (pinsOf c)
+    (c .a .present || not (c .a .wire .present)) && (c .b .present || not (c .b .wire .present)) && (c .c .present || not (c .c .wire .present))
+    && (c .icr .present || not (c .icr .wire .present)) && distinct (pinsOf c) && within 247 (pinsOf c)
 
--- every rule is kept; one of the two clock tables is what Clocks offers
+-- every rule is kept
 unfoldable pub accepted : Config → Bool
-accepted c = widthRule c && layoutRule c && compareRule c && addressRule c && flagRule c && pinRule c
+accepted c = choiceRule c && widthRule c && layoutRule c && compareRule c && addressRule c && flagRule c && pinRule c
+
+-- no pin
+abbrev pub noWire : Wire
+noWire = record { present = false; pin = 0 }
 
 -- an absent compare unit
 abbrev pub noCompare : Compare
-noCompare = record { present = false; address = 0; flag = 0; force = 0; wire = Absent }
+noCompare = record { present = false; address = 0; flag = 0; force = 0; wire = noWire }
 
 -- an absent capture unit
 abbrev pub noCapture : Capture
-noCapture = record { present = false; address = 0; flag = 0; wire = Absent }
+noCapture = record { present = false; address = 0; flag = 0; wire = noWire }
 
 -- the least that is accepted: one control address, TCNTn and TOVn
 abbrev pub least : Config
-least = record { id = 0; wide = false; layout = Bare; tccra = 0; tccrb = 0; foc = 0; tcnt = 1; a = noCompare; b = noCompare; c = noCompare; icr = noCapture; tov = 1; t = Absent; clocks = Sync; group = 0; prr = 0; sleeprun = 0 }
+least = record { id = 0; wide = false; layout = 2; tccra = 0; tccrb = 0; foc = 0; tcnt = 1; a = noCompare; b = noCompare; c = noCompare; icr = noCapture; tov = 1; t = noWire; clocks = 0; group = 0; prr = 0; sleeprun = 0 }
 
 pub least-accepted : accepted least ≡ true
-unfolding accepted widthRule layoutRule compareRule addressRule controls owned flagRule flagged oneBit flagsOf pinRule pinsOf also has distinct within
+unfolding accepted choiceRule widthRule layoutRule compareRule addressRule controls owned flagRule flagged oneBit flagsOf pinRule pinsOf also has distinct within
 least-accepted = refl
 
 -- the place of a register of two bytes, low or high, if the address is one of them, else another place

@@ -6,28 +6,29 @@ use crate::few::Few;
 ghost use mathlib.Core.Path.{_≡_};
 ghost use Prim.Native.Nat.{_+_, _<_, _≤_};
 ghost use Rattle.config.specs.Few.{held};
-ghost use Rattle.config.specs.Config.{split, bare, wired, pinOf, oneBit, flagged, controls, owned, flagsOf, pinsOf, widthRule, layoutRule, compareRule, addressRule, flagRule, pinRule, accepted, register, pinned, least, pairAt, controlAt, placeOf};
+ghost use Rattle.config.specs.Config.{split, bare, oneBit, flagged, controls, owned, flagsOf, pinsOf, choiceRule, widthRule, layoutRule, compareRule, addressRule, flagRule, pinRule, accepted, register, pinned, least, pairAt, controlAt, placeOf};
 
 // Where the control bits stand: TCCRnA and TCCRnB, one TCCRn, or one TCCRn without WGM.
-pub enum Layout {
-    Split,
-    Single,
-    Bare,
-}
+pub const SPLIT: u8 = 0;
 
-// Which of the two clock select tables it has.
-pub enum Clocks {
-    Sync,
-    Timer2,
-}
+pub const SINGLE: u8 = 1;
+
+pub const BARE: u8 = 2;
+
+// The two clock select tables.
+pub const SYNC: u8 = 0;
+
+pub const TIMER2: u8 = 1;
 
 // A pin, where there is one.
-pub enum Wire {
-    Pin(u8),
-    Absent,
+#[repr(C)]
+pub struct Wire {
+    pub present: bool,
+    pub pin: u8,
 }
 
 // A compare unit: OCRnx, OCFnx, FOCnx and OCnx.
+#[repr(C)]
 pub struct Compare {
     pub present: bool,
     pub address: u16,
@@ -37,6 +38,7 @@ pub struct Compare {
 }
 
 // The capture unit: ICRn, ICFn and ICPn.
+#[repr(C)]
 pub struct Capture {
     pub present: bool,
     pub address: u16,
@@ -45,11 +47,12 @@ pub struct Capture {
 }
 
 // foc is where the force bits stand, prr the timer's bit of the power reduction register, sleeprun the sleep modes that
-// it counts in.
+// it counts in. Layout and clock table are numbers, so that a program in Rust or C can hold a configuration.
+#[repr(C)]
 pub struct Config {
     pub id: u8,
     pub wide: bool,
-    pub layout: Layout,
+    pub layout: u8,
     pub tccra: u16,
     pub tccrb: u16,
     pub foc: u16,
@@ -60,7 +63,7 @@ pub struct Config {
     pub icr: Capture,
     pub tov: u8,
     pub t: Wire,
-    pub clocks: Clocks,
+    pub clocks: u8,
     pub group: u8,
     pub prr: u16,
     pub sleeprun: u8,
@@ -87,28 +90,6 @@ pub fn is_flagged(present: bool, flag: u8) -> bool
     if present { is_one_bit(flag) } else { flag == 0 }
 }
 
-impl Wire {
-    // Is there a pin.
-    pub fn is_pin(self) -> bool
-        ensures { λ r. ⌜ r ≡ wired self ⌝ }
-    {
-        match self {
-            Wire::Pin(_) => true,
-            Wire::Absent => false,
-        }
-    }
-
-    // The pin's number, 0 where there is none.
-    pub fn pin(self) -> u8
-        ensures { λ r. ⌜ r ≡ pinOf self ⌝ }
-    {
-        match self {
-            Wire::Pin(p) => p,
-            Wire::Absent => 0,
-        }
-    }
-}
-
 impl Few {
     // A register's address, and that of its high byte in a wide timer.
     pub fn register(self, present: bool, wide: bool, address: u16) -> Few
@@ -125,7 +106,7 @@ impl Few {
         requires { ⌜ self .len < 13 ⌝ }
         ensures { λ r. ⌜ (held r ≡ pinned wire (held self)) × (r .len ≤ self .len + 1) ⌝ }
     {
-        self.also(wire.is_pin(), wire.pin() as u32)
+        self.also(wire.present, wire.pin as u32)
     }
 }
 
@@ -134,23 +115,27 @@ impl Config {
     pub fn least() -> Config
         ensures { λ r. ⌜ r ≡ least ⌝ }
     {
+        let wire = Wire {
+            present: false,
+            pin: 0,
+        };
         let compare = Compare {
             present: false,
             address: 0,
             flag: 0,
             force: 0,
-            wire: Wire::Absent,
+            wire,
         };
         let capture = Capture {
             present: false,
             address: 0,
             flag: 0,
-            wire: Wire::Absent,
+            wire,
         };
         Config {
             id: 0,
             wide: false,
-            layout: Layout::Bare,
+            layout: BARE,
             tccra: 0,
             tccrb: 0,
             foc: 0,
@@ -160,8 +145,8 @@ impl Config {
             c: compare,
             icr: capture,
             tov: 1,
-            t: Wire::Absent,
-            clocks: Clocks::Sync,
+            t: wire,
+            clocks: SYNC,
             group: 0,
             prr: 0,
             sleeprun: 0,
@@ -172,24 +157,21 @@ impl Config {
     pub fn is_split(self) -> bool
         ensures { λ r. ⌜ r ≡ split (self .layout) ⌝ }
     {
-        let layout = self.layout;
-        match layout {
-            Layout::Split => true,
-            Layout::Single => false,
-            Layout::Bare => false,
-        }
+        self.layout == SPLIT
     }
 
     // Is there no WGM.
     pub fn is_bare(self) -> bool
         ensures { λ r. ⌜ r ≡ bare (self .layout) ⌝ }
     {
-        let layout = self.layout;
-        match layout {
-            Layout::Split => false,
-            Layout::Single => false,
-            Layout::Bare => true,
-        }
+        self.layout == BARE
+    }
+
+    // There are three layouts and two clock tables.
+    pub fn keeps_choices(self) -> bool
+        ensures { λ r. ⌜ r ≡ choiceRule self ⌝ }
+    {
+        (self.layout <= BARE) & (self.clocks <= TIMER2)
     }
 
     // ICR and channel C only when wide.
@@ -329,10 +311,10 @@ impl Config {
         let wc = c.wire;
         let wi = icr.wire;
         let pins = self.pins();
-        (a.present | !wa.is_pin())
-            & (b.present | !wb.is_pin())
-            & (c.present | !wc.is_pin())
-            & (icr.present | !wi.is_pin())
+        (a.present | !wa.present)
+            & (b.present | !wb.present)
+            & (c.present | !wc.present)
+            & (icr.present | !wi.present)
             & pins.distinct()
             & pins.within(247)
     }
@@ -341,7 +323,8 @@ impl Config {
     pub fn is_accepted(self) -> bool
         ensures { λ r. ⌜ r ≡ accepted self ⌝ }
     {
-        self.keeps_width()
+        self.keeps_choices()
+            & self.keeps_width()
             & self.keeps_layout()
             & self.keeps_compares()
             & self.keeps_addresses()

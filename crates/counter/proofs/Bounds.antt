@@ -3,11 +3,10 @@ use Prim.Native.Nat.{ℕ, zero, suc, _-_, _%_, _≤_, _<_, max}
 use native.Mathlib.Omega.{arith}
 use mathlib.Core.Bool.{Bool, true, false}
 use mathlib.Core.List.{List, [], _∷_}
+use lib.Dec.{eqb}
 use lib.ListN.{getD}
-use Rattle.config.specs.declared.Clocks.{Clocks}
-use Rattle.config.specs.declared.Clocks.the-variants.{Sync, Timer2}
 use Rattle.tick.specs.Sound.{Sound}
-use Rattle.tick.proofs.Choices.{cond-all}
+use Rattle.tick.proofs.Choices.{cond-all, cond-le}
 use Rattle.counter.specs.declared.state.Timer.{Timer}
 use Rattle.counter.specs.Modes.{narrowTops, wideTops, syncDivisors, timer2Divisors, fixedAt, maxAt, divisorAt, modeOf, waveOf, divisorOf}
 use Rattle.counter.specs.Setting.{settingOf, settingAt, movingOf}
@@ -29,10 +28,9 @@ unfolding fixedAt maxAt most
 fixed-max true mode = at-most wideTops mode
 fixed-max false mode = at-most narrowTops mode
 
-select-max : (c : Clocks) (select : ℕ) → divisorAt c select ≤ 1024
+select-max : (clocks select : ℕ) → divisorAt clocks select ≤ 1024
 unfolding divisorAt most
-select-max Sync select = at-most syncDivisors select
-select-max Timer2 select = at-most timer2Divisors select
+select-max clocks select = cond-le (eqb clocks 0) (at-most syncDivisors select) (at-most timer2Divisors select)
 
 pub divisor-max : (t : Timer) → divisorOf t ≤ 1024
 unfolding divisorOf

@@ -3,8 +3,6 @@ use Prim.Native.Nat.{ℕ, _/_, _%_}
 use mathlib.Core.Bool.{Bool, true, false, not, _&&_, _||_}
 use lib.Bits.{bitOr}
 use lib.Dec.{eqb}
-use Rattle.config.specs.declared.Clocks.{Clocks}
-use Rattle.config.specs.declared.Clocks.the-variants.{Sync, Timer2}
 use Rattle.wave.specs.Kinds.{I}
 use Rattle.tick.specs.declared.events.Events.{Events}
 use Rattle.tick.specs.Tick.{raised, flagLog}
@@ -34,9 +32,8 @@ captured t = record {
 }
 
 -- clock select 6 chooses the T pin's falling edge, 7 its rising one
-unfoldable pub chosen : Clocks → ℕ → ℕ → Bool
-chosen Sync select level = eqb select 6 && eqb level 0 || eqb select 7 && eqb level 1
-chosen Timer2 select level = false
+unfoldable pub chosen : ℕ → ℕ → ℕ → Bool
+chosen clocks select level = eqb clocks 0 && (eqb select 6 && eqb level 0 || eqb select 7 && eqb level 1)
 
 -- a chosen T edge, if nothing holds the counter, works one tick
 unfoldable pub ticksOn : Timer → ℕ → Bool

@@ -4,8 +4,6 @@ use mathlib.Core.Bool.{Bool, cond, not, _&&_, _||_}
 use mathlib.Core.List.{List, [], _∷_}
 use lib.ListN.{getD}
 use lib.Dec.{eqb, ltb}
-use Rattle.config.specs.declared.Clocks.{Clocks}
-use Rattle.config.specs.declared.Clocks.the-variants.{Sync, Timer2}
 use Rattle.wave.specs.declared.kinds.Wave.{Wave}
 use Rattle.wave.specs.declared.units.Prescaler.{Prescaler}
 use Rattle.wave.specs.Kinds.{N, C, F, P, Q, X, A, I}
@@ -68,9 +66,8 @@ unfoldable pub togglesAt : Bool → ℕ → Bool
 togglesAt wide mode = cond wide (eqb mode 9 || eqb mode 11 || eqb mode 15) (eqb mode 5 || eqb mode 7)
 
 -- clock select 0 to 7 takes one of the two tables
-unfoldable pub divisorAt : Clocks → ℕ → ℕ
-divisorAt Sync select = getD syncDivisors select 0
-divisorAt Timer2 select = getD timer2Divisors select 0
+unfoldable pub divisorAt : ℕ → ℕ → ℕ
+divisorAt clocks select = cond (eqb clocks 0) (getD syncDivisors select 0) (getD timer2Divisors select 0)
 
 -- the timer's mode number
 unfoldable pub modeOf : Timer → ℕ

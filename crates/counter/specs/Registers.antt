@@ -6,8 +6,6 @@ use lib.ListN.{getD, set}
 use lib.Bits.{bitAnd}
 use lib.Dec.{eqb, leb}
 use Rattle.config.specs.declared.Config.{Config}
-use Rattle.config.specs.declared.Layout.{Layout}
-use Rattle.config.specs.declared.Layout.the-variants.{Split, Single, Bare}
 use Rattle.config.specs.Config.{split, bare}
 use Rattle.wave.specs.Kinds.{C}
 use Rattle.tick.specs.declared.events.Events.{Events}
@@ -121,10 +119,10 @@ unfoldable pub driven : Timer → Bool → ℕ → Noted
 driven t again v = record { timer = outsTo t (drivenBy t again v); log = drivenBy t again v .log }
 
 -- stored masks: TCCRnA F3 (FF with channel C); the single layout unpacks COM and WGM, without WGM none is kept
-unfoldable pub storedA : Config → Layout → ℕ → ℕ
-storedA c Split v = cond (c .c .present) v (bitAnd v 0xF3)
-storedA c Single v = v / 16 % 4 * 64 + v / 64 % 2 + v / 8 % 2 * 2
-storedA c Bare v = 0
+unfoldable pub storedA : Config → ℕ → ℕ → ℕ
+storedA c layout v =
+    cond (eqb layout 0) (cond (c .c .present) v (bitAnd v 0xF3))
+    (cond (eqb layout 1) (v / 16 % 4 * 64 + v / 64 % 2 + v / 8 % 2 * 2) 0)
 
 -- TCCRnB DF wide, 0F narrow
 unfoldable pub storedB : Config → ℕ → ℕ

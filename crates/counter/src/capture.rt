@@ -3,7 +3,7 @@
 use crate::advance::Logged;
 use crate::state::Flags;
 use crate::state::Timer;
-use config::Clocks;
+use config::SYNC;
 use records::Log;
 use tick::events::Events;
 use tick::flags::put_flags;
@@ -73,12 +73,9 @@ impl Timer {
     {
         let config = self.config;
         let registers = self.registers;
-        let clocks = config.clocks;
         let chosen = registers.tccrb % 8;
-        match clocks {
-            Clocks::Sync => (((chosen == 6) & (level == 0)) | ((chosen == 7) & (level == 1)))
-                & !self.held(),
-            Clocks::Timer2 => false,
-        }
+        (config.clocks == SYNC)
+            & (((chosen == 6) & (level == 0)) | ((chosen == 7) & (level == 1)))
+            & !self.held()
     }
 }

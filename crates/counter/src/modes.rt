@@ -1,7 +1,7 @@
 // Mode, kind, TOP, MAX and clock: the tables that belong to the timer.
 
 use crate::state::Timer;
-use config::Clocks;
+use config::SYNC;
 use wave::kinds::CTC;
 use wave::kinds::FAST;
 use wave::kinds::FIXED;
@@ -143,14 +143,14 @@ impl Timer {
     }
 
     // Cycles a tick, 0 where the clock is stopped or the T pin's.
-    pub fn divisor_at(clocks: Clocks, select: u8) -> u32
+    pub fn divisor_at(clocks: u8, select: u8) -> u32
         requires { ⌜ select < 8 ⌝ }
         ensures { λ r. ⌜ r ≡ divisorAt clocks select ⌝ }
     {
         let i = select as usize;
         match clocks {
-            Clocks::Sync => Self::SYNC_DIVISORS[i],
-            Clocks::Timer2 => Self::TIMER2_DIVISORS[i],
+            SYNC => Self::SYNC_DIVISORS[i],
+            _ => Self::TIMER2_DIVISORS[i],
         }
     }
 

@@ -4,7 +4,8 @@ use crate::advance::Logged;
 use crate::state::Registers;
 use crate::state::Timer;
 use config::Config;
-use config::Layout;
+use config::SINGLE;
+use config::SPLIT;
 use records::Log;
 use tick::events::Events;
 use tick::outputs::Outputs;
@@ -275,9 +276,9 @@ impl Timer {
         let c = config.c;
         let layout = config.layout;
         match layout {
-            Layout::Split => if c.present { value } else { value & 0xf3 },
-            Layout::Single => value / 16 % 4 * 64 + value / 64 % 2 + value / 8 % 2 * 2,
-            Layout::Bare => 0,
+            SPLIT => if c.present { value } else { value & 0xf3 },
+            SINGLE => value / 16 % 4 * 64 + value / 64 % 2 + value / 8 % 2 * 2,
+            _ => 0,
         }
     }
 

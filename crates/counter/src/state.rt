@@ -5,6 +5,7 @@ use tick::setting::Drives;
 use wave::count::Counter;
 use wave::units::Cycle;
 
+#[repr(C)]
 pub struct Registers {
     pub tccra: u8,
     pub tccrb: u8,
@@ -12,12 +13,14 @@ pub struct Registers {
     pub temp: u8,
 }
 
+#[repr(C)]
 pub struct Flags {
     pub tifr: u8,
     pub timsk: u8,
 }
 
 // The cycle up to which the state is worked, the prescaler's origin, and the latest accepted cycle.
+#[repr(C)]
 pub struct Clock {
     pub sync: Cycle,
     pub origin: Cycle,
@@ -25,6 +28,7 @@ pub struct Clock {
 }
 
 // What holds the counter (asleep, and since when; power reduction; TSM), and whether the comparator feeds the capture.
+#[repr(C)]
 pub struct Halts {
     pub asleep: bool,
     pub since: Cycle,
@@ -34,6 +38,7 @@ pub struct Halts {
 }
 
 // ocr has the active compares of the channels A, B and C, buffer the buffered ones, oc the output levels.
+#[repr(C)]
 pub struct Timer {
     pub config: Config,
     pub counter: Counter,

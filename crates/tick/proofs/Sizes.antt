@@ -9,7 +9,6 @@ use Rattle.records.specs.declared.Entry.{Entry}
 use Rattle.records.specs.Records.{only, recordsOf}
 use Rattle.records.proofs.Records.{records-length}
 use Rattle.config.specs.declared.Wire.{Wire}
-use Rattle.config.specs.declared.Wire.the-variants.{Pin, Absent}
 use Rattle.tick.specs.declared.events.Events.{Events}
 use Rattle.tick.specs.declared.setting.Channel.{Channel}
 use Rattle.tick.specs.declared.setting.Moving.{Moving}
@@ -27,8 +26,7 @@ recorded-one pin ch enable value o =
 
 on-pin-one : (w : Wire) (ch enable : ℕ) (o : Outs) → length (onPin w ch enable o .log) ≤ length (o .log) + 1
 unfolding onPin
-on-pin-one (Pin p) ch enable o = recorded-one p ch enable (getD (o .oc) ch 0) o
-on-pin-one Absent ch enable o = omega arith
+on-pin-one w ch enable o = cond-all (λ (p : Outs). length (p .log) ≤ length (o .log) + 1) (w .present) (recorded-one (w .pin) ch enable (getD (o .oc) ch 0) o) (omega arith)
 
 module _ (c : Channel) (ch : ℕ) (o : Outs) where
   acted-one : (level : ℕ) → length (acted c ch level o .log) ≤ length (o .log) + 1

@@ -12,7 +12,6 @@ use Rattle.records.specs.declared.Entry.{Entry}
 use Rattle.records.specs.Records.{recordOf, recordsOf}
 use Rattle.records.proofs.Records.{record-length, records-one, records-append, records-then}
 use Rattle.config.specs.declared.Wire.{Wire}
-use Rattle.config.specs.declared.Wire.the-variants.{Pin, Absent}
 use Rattle.wave.specs.Kinds.{C}
 use Rattle.tick.specs.declared.events.Events.{Events}
 use Rattle.tick.specs.declared.outputs.Outputs.{Outputs}
@@ -69,8 +68,7 @@ recorded-appends pin ch enable value =
 
 pub on-pin-appends : (w : Wire) (ch enable : ℕ) → Appends (onPin w ch enable)
 unfolding onPin
-on-pin-appends (Pin p) ch enable = record { shifts = λ l o. recorded-appends p ch enable (getD (o .oc) ch 0) .shifts l o }
-on-pin-appends Absent ch enable = record { shifts = λ l o. refl }
+on-pin-appends w ch enable = record { shifts = λ l o. after-cond (w .present) l _ _ (recorded-appends (w .pin) ch enable (getD (o .oc) ch 0) .shifts l o) refl }
 
 pub acted-appends : (c : Channel) (ch level : ℕ) → Appends (acted c ch level)
 unfolding acted

@@ -9,7 +9,6 @@ use lib.Dec.{eqb, leb}
 use Rattle.records.specs.declared.Entry.{Entry}
 use Rattle.records.specs.Records.{recordsOf}
 use Rattle.config.specs.declared.Wire.{Wire}
-use Rattle.config.specs.declared.Wire.the-variants.{Pin, Absent}
 use Rattle.wave.specs.Kinds.{F, C}
 use Rattle.tick.specs.declared.events.Events.{Events}
 use Rattle.tick.specs.declared.outputs.Outputs.{Outputs}
@@ -46,8 +45,7 @@ recorded pin ch enable value o =
 
 -- the channel's enable and level go to its pin, if it has one
 unfoldable pub onPin : Wire → ℕ → ℕ → Outs → Outs
-onPin (Pin p) ch enable o = recorded p ch enable (getD (o .oc) ch 0) o
-onPin Absent ch enable o = o
+onPin w ch enable o = cond (w .present) (recorded (w .pin) ch enable (getD (o .oc) ch 0) o) o
 
 -- the channel's drive: its enable and its level
 abbrev pub applied : Channel → ℕ → Outs → Outs

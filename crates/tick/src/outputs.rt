@@ -5,7 +5,6 @@ use crate::setting::Channel;
 use crate::setting::Drives;
 use crate::setting::Moving;
 use crate::setting::Setting;
-use config::Wire;
 use records::Entry;
 use wave::kinds::CTC;
 use wave::kinds::FAST;
@@ -107,9 +106,10 @@ impl Outputs {
         let oc = self.oc;
         let level = oc[ch];
         let wire = channel.wire;
-        match wire {
-            Wire::Pin(pin) => self.record(pin, ch, bit(channel.enabled), level, area, cycle),
-            Wire::Absent => self,
+        if wire.present {
+            self.record(wire.pin, ch, bit(channel.enabled), level, area, cycle)
+        } else {
+            self
         }
     }
 

@@ -44,6 +44,7 @@ pub struct Moving {
 }
 
 // The drive last recorded for each channel.
+#[repr(C)]
 pub struct Drives {
     pub enables: [u8; 3],
     pub values: [u8; 3],

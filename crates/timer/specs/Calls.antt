@@ -7,7 +7,6 @@ use lib.Dec.{eqb, leb, ltb}
 use lib.ListN.{length}
 use Rattle.records.specs.Records.{recordsOf}
 use Rattle.config.specs.declared.Wire.{Wire}
-use Rattle.config.specs.declared.Wire.the-variants.{Pin, Absent}
 use Rattle.config.specs.Config.{placeOf}
 use Rattle.counter.specs.declared.state.Timer.{Timer}
 use Rattle.counter.specs.Capture.{captures, captured, ticksOn, flagsTo}
@@ -30,8 +29,7 @@ placed t address = placeOf (t .config) address
 
 -- a pin is the one wired
 abbrev pub isPin : Wire → ℕ → Bool
-isPin (Pin p) pin = eqb p pin
-isPin Absent pin = false
+isPin w pin = w .present && eqb (w .pin) pin
 
 -- an edge of the capture pin captures while the comparator is not routed here
 unfoldable pub edgeCaptures : Timer → ℕ → ℕ → Bool

@@ -4,11 +4,9 @@ use mathlib.Core.Bool.{true, false}
 use mathlib.Core.List.{List, [], _∷_, _++_}
 use mathlib.Core.Path.{_≡_}
 use lib.ListN.{take, replicate}
-use Rattle.config.specs.declared.Clocks.the-variants.{Sync}
 use Rattle.config.specs.declared.Compare.{Compare}
 use Rattle.config.specs.declared.Config.{Config}
-use Rattle.config.specs.declared.Layout.the-variants.{Split}
-use Rattle.config.specs.declared.Wire.the-variants.{Pin}
+use Rattle.config.specs.declared.Wire.{Wire}
 use Rattle.config.specs.Config.{noCompare, noCapture}
 use Rattle.counter.specs.declared.next.Next.the-variants.{At}
 use Rattle.counter.specs.declared.state.Timer.{Timer}
@@ -19,16 +17,20 @@ use Rattle.timer.specs.declared.calls.Call.the-variants.{Advance, Next, 
 use Rattle.answers.specs.Answers.{Values, none, byte, event, Told}
 use Rattle.timer.specs.Calls.{answered}
 
+-- a pin
+abbrev pub wire : ℕ → Wire
+wire pin = record { present = true; pin = pin }
+
 -- a compare unit of the ATmega328P
 abbrev pub compare : ℕ → ℕ → ℕ → ℕ → Compare
-compare address flag force pin = record { present = true; address = address; flag = flag; force = force; wire = Pin pin }
+compare address flag force pin = record { present = true; address = address; flag = flag; force = force; wire = wire pin }
 
 -- Timer0 of the ATmega328P, in the 28-pin DIP
 abbrev pub timer0 : Config
 timer0 = record {
   id = 0;
   wide = false;
-  layout = Split;
+  layout = 0;
   tccra = 0x44;
   tccrb = 0x45;
   foc = 0x45;
@@ -38,8 +40,8 @@ timer0 = record {
   c = noCompare;
   icr = noCapture;
   tov = 1;
-  t = Pin 6;
-  clocks = Sync;
+  t = wire 6;
+  clocks = 0;
   group = 1;
   prr = 0x20;
   sleeprun = 0;
@@ -50,7 +52,7 @@ abbrev pub timer1 : Config
 timer1 = record {
   id = 1;
   wide = true;
-  layout = Split;
+  layout = 0;
   tccra = 0x80;
   tccrb = 0x81;
   foc = 0x82;
@@ -58,10 +60,10 @@ timer1 = record {
   a = compare 0x88 2 0x80 15;
   b = compare 0x8A 4 0x40 16;
   c = noCompare;
-  icr = record { present = true; address = 0x86; flag = 0x20; wire = Pin 14 };
+  icr = record { present = true; address = 0x86; flag = 0x20; wire = wire 14 };
   tov = 1;
-  t = Pin 11;
-  clocks = Sync;
+  t = wire 11;
+  clocks = 0;
   group = 1;
   prr = 8;
   sleeprun = 0;

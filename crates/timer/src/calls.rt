@@ -194,10 +194,7 @@ pub fn write_timsk(t: Timer, mask: u8, cycle: Cycle, area: &mut [u8]) -> Outcome
 fn is_pin(wire: Wire, pin: u8) -> bool
     ensures { λ r. ⌜ r ≡ isPin wire pin ⌝ }
 {
-    match wire {
-        Wire::Pin(p) => p == pin,
-        Wire::Absent => false,
-    }
+    wire.present & (wire.pin == pin)
 }
 
 // An edge of a pin: a capture, a tick, or nothing.

@@ -17,6 +17,7 @@ ghost use Rattle.wave.specs.Count.{negative, topOf, falls, hits, overflo
 ghost use Rattle.wave.specs.Kinds.{P};
 
 // TCNTn, the way it goes in P and Q (plus or minus one), and whether a write of it blocks the next match.
+#[repr(C)]
 pub struct Counter {
     pub count: u32,
     pub direction: i32,

@@ -5,6 +5,7 @@ ghost use mathlib.Core.Path.{_≡_};
 ghost use Rattle.wave.specs.Units.{ticksAt, cycleAt};
 
 // A CPU cycle.
+#[repr(C)]
 pub struct Cycle(pub u64);
 
 // A prescaled tick, by its number from the prescaler's origin on.

@@ -1,9 +1,12 @@
 //! Stands in for machine.rs: `Cx`, `Peripheral`, `Trigger` and `Event` with the names and meanings that
 //! timer.rs and irqflags.rs use. It records what a peripheral tells the machine and does nothing else.
 
+mod peripheral;
+
 use std::collections::VecDeque;
 
 use crate::scheduler::{EventKey, Scheduler};
+pub use peripheral::Peripheral;
 
 /// Addresses that the flag and mask bytes of the one timer have in `Cpu::data`.
 pub const TIFR: u16 = 0;
@@ -95,31 +98,4 @@ impl Cx<'_> {
     pub fn cancel(&mut self, tag: u8) {
         self.sys.sched.cancel(EventKey { owner: self.me, tag });
     }
-}
-
-/// The calls of a peripheral that the timer or the flag registers answer.
-#[allow(unused_variables)]
-pub trait Peripheral: Send {
-    fn name(&self) -> &str;
-    fn reset(&mut self, cx: &mut Cx);
-    fn read(&mut self, addr: u16, cx: &mut Cx) -> u8 {
-        cx.cpu.data[addr as usize]
-    }
-    fn write(&mut self, addr: u16, value: u8, cx: &mut Cx) {
-        cx.cpu.data[addr as usize] = value;
-    }
-    fn peek(&mut self, addr: u16, cx: &mut Cx) -> u8 {
-        cx.cpu.data[addr as usize]
-    }
-    fn on_event(&mut self, tag: u8, cycle: u64, cx: &mut Cx) {}
-    fn ack(&mut self, vector: u8, cx: &mut Cx) {}
-    fn on_pin(&mut self, pin: u8, level: u8, cycle: u64, cx: &mut Cx) {}
-    fn on_trigger(&mut self, trigger: Trigger, value: u8, cycle: u64, cx: &mut Cx) {}
-    fn on_power_reduction(&mut self, prr: u16, cx: &mut Cx) {}
-    fn on_sleep(&mut self, mode: u8, cx: &mut Cx) {}
-    fn on_wake(&mut self, cx: &mut Cx) {}
-    fn inspect(&mut self, cx: &mut Cx) -> Vec<(String, String)> {
-        Vec::new()
-    }
-    fn as_any_mut(&mut self) -> &mut dyn std::any::Any;
 }

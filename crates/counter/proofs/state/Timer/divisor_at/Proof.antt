@@ -1,3 +1,4 @@
+use borrow.Author.Tests.{ne-eqb}
 use borrow.Author.Needs.{needs}
 use Rattle.counter.specs.Modes.{divisorAt}
 use Rattle.counter.proofs.state.Timer.divisor_at.Statement.{statement}
@@ -5,18 +6,16 @@ use Rattle.counter.proofs.state.Timer.divisor_at.Tie as tie
 
 returns : tie.Need-returns
 unfolding divisorAt
-returns c = simp (c .enum-told .given .1)
+returns c = simp (c .match .keys1)
 
 returns-2 : tie.Need-returns-2
 unfolding divisorAt
-returns-2 c = simp (c .enum-told2 .given .1)
+returns-2 c = simp (ne-eqb _ _ (c .match .rest .1))
 
 pub divisor-at-spec : {M : Type 1} → statement M
 divisor-at-spec =
     tie.close
     (tie.spec
-    (λ c. search needs)
-    (λ c. search needs)
     (λ c. search needs)
     (λ c. search needs)
     (λ c. search needs)

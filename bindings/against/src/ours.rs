@@ -1,0 +1,145 @@
+//! The bindings as a side of the oracle's scripts.
+
+use oracle::script::{self, Answer, State};
+use paddlemauve::{Answer as Told, Call, Capture, Clocks, Compare, Config, Layout, Outcome, Refusal, Timer};
+
+#[derive(Default)]
+pub struct Ours {
+    held: Option<(script::Config, Timer)>,
+}
+
+impl Ours {
+    pub fn configure(&mut self, config: &script::Config) -> Answer {
+        match Timer::new(&taken(config)) {
+            Ok(timer) => {
+                self.held = Some((config.clone(), timer));
+                Answer::Config
+            }
+            Err(why) => Answer::Refused(why.number()),
+        }
+    }
+
+    pub fn call(&mut self, call: script::Call, cycle: u64, area: &mut [u8]) -> Answer {
+        let Some((_, timer)) = &mut self.held else {
+            return Answer::NoTimer;
+        };
+        let Outcome { answer, written: bytes } = timer.call(asked(call), cycle, area);
+        match answer {
+            Told::Refused(why) => Answer::Refused(why.number()),
+            Told::Paused(cycle) => Answer::Paused { cycle, bytes },
+            Told::Value(value) => Answer::Done { value: Some(value), next: self.next(), bytes },
+            Told::Next(at) => {
+                assert_eq!(at, self.next(), "next answers what it answers again");
+                Answer::Done { value: None, next: at, bytes }
+            }
+            Told::Done => Answer::Done { value: None, next: self.next(), bytes },
+        }
+    }
+
+    /// The next event as the timer stands; none too where it is past.
+    fn next(&self) -> Option<u64> {
+        self.asked_next().and_then(|next| next.unwrap_or(None))
+    }
+
+    /// Whether the event is past, where `next` is refused.
+    pub fn event_due(&self) -> bool {
+        self.asked_next() == Some(Err(Refusal::EventDue))
+    }
+
+    fn asked_next(&self) -> Option<Result<Option<u64>, Refusal>> {
+        self.held.as_ref().map(|(_, timer)| timer.clone().next(timer.state().latest))
+    }
+
+    pub fn state(&self) -> Option<State> {
+        self.held.as_ref().map(|(config, timer)| shown(config, &timer.state()))
+    }
+}
+
+/// A configuration of the script as the bindings'.
+fn taken(c: &script::Config) -> Config {
+    let unit = |address: Option<u16>, flag, force, pin| Compare {
+        present: address.is_some(),
+        address: address.unwrap_or(0),
+        flag,
+        force,
+        pin,
+    };
+    Config {
+        id: c.id,
+        wide: c.wide,
+        layout: match c.layout {
+            script::Layout::Split => Layout::Split,
+            script::Layout::Single => Layout::Single,
+            script::Layout::Single0 => Layout::Bare,
+        },
+        tccra: c.tccra,
+        tccrb: c.tccrb,
+        foc: c.foc,
+        tcnt: c.tcnt,
+        a: unit(c.ocra, c.ocfa, c.foca, c.pina),
+        b: unit(c.ocrb, c.ocfb, c.focb, c.pinb),
+        c: c.c.map_or(Compare::ABSENT, |u| Compare::at(u.ocr, u.flag, u.force, u.pin)),
+        icr: Capture { present: c.icr.is_some(), address: c.icr.unwrap_or(0), flag: c.icf, pin: c.icp },
+        tov: c.tov,
+        t: c.t,
+        clocks: if c.clock == script::ClockTable::Sync { Clocks::Sync } else { Clocks::Timer2 },
+        group: c.group,
+        prr: c.prr,
+        sleeprun: c.sleeprun,
+    }
+}
+
+fn asked(call: script::Call) -> Call {
+    match call {
+        script::Call::Advance => Call::Advance,
+        script::Call::Next => Call::Next,
+        script::Call::Reset => Call::Reset,
+        script::Call::Wake => Call::Wake,
+        script::Call::Read(address) => Call::Read(address),
+        script::Call::Peek(address) => Call::Peek(address),
+        script::Call::Write(address, value) => Call::Write(address, value),
+        script::Call::Tifr => Call::Tifr,
+        script::Call::Timsk => Call::Timsk,
+        script::Call::WriteTifr(ones) => Call::WriteTifr(ones),
+        script::Call::WriteTimsk(mask) => Call::WriteTimsk(mask),
+        script::Call::Edge { pin, level } => Call::Edge { pin, level },
+        script::Call::Route(level) => Call::Route(level),
+        script::Call::AcOut(level) => Call::Output(level),
+        script::Call::Sleep(mode) => Call::Sleep(mode),
+        script::Call::Prr(mask) => Call::Reduce(mask),
+        script::Call::Tsm(level) => Call::Tsm(level),
+        script::Call::Presc(mask) => Call::Prescale(mask),
+    }
+}
+
+/// The state as a script shows it: compares that are there, drives of channels with a pin, and the request lines.
+fn shown(config: &script::Config, t: &paddlemauve::State) -> State {
+    let c = config.c;
+    let present = [config.ocra.is_some(), config.ocrb.is_some(), c.is_some()];
+    let pins = [config.pina, config.pinb, c.and_then(|c| c.pin)];
+    let values = |values: [u32; 3]| [0, 1, 2].map(|ch| present[ch].then_some(values[ch]));
+    let flags = [config.tov, config.ocfa, config.ocfb, config.icf, c.map_or(0, |c| c.flag)];
+    State {
+        count: t.count,
+        dir: t.direction,
+        ocr: values(t.ocr),
+        buf: values(t.buffer),
+        icr: t.icr,
+        temp: t.temp,
+        oc: t.oc,
+        drive: [0, 1, 2].map(|ch| pins[ch].map(|_| t.drives[ch])),
+        block: t.blocked,
+        tccra: t.tccra,
+        tccrb: t.tccrb,
+        tifr: t.tifr,
+        timsk: t.timsk,
+        lines: flags.map(|flag| t.tifr & t.timsk & flag != 0),
+        sync: t.sync,
+        origin: t.origin,
+        asleep: t.asleep,
+        prr: t.reduced,
+        tsm: t.tsm,
+        route: t.routed,
+        latest: t.latest,
+    }
+}

@@ -1,0 +1,140 @@
+//! The calls and what they answer.
+
+use std::fmt;
+
+use crate::raw;
+
+/// Every call of the timer, with its arguments.
+#[derive(Clone, Copy, Debug, PartialEq, Eq)]
+pub enum Call {
+    Advance,
+    Next,
+    Read(u16),
+    Peek(u16),
+    Write(u16, u8),
+    Tifr,
+    Timsk,
+    WriteTifr(u8),
+    WriteTimsk(u8),
+    Edge { pin: u8, level: u8 },
+    Output(u8),
+    Route(u8),
+    Sleep(u8),
+    Wake,
+    Reduce(u16),
+    Tsm(u8),
+    Prescale(u8),
+    Reset,
+}
+
+/// Why a call was turned away. Nothing has changed then: neither the timer nor a byte of the area.
+#[derive(Clone, Copy, Debug, PartialEq, Eq)]
+pub enum Refusal {
+    /// 1: the configuration breaks a rule.
+    Configuration,
+    /// 2: the cycle is over 2^62 − 1.
+    CycleTooLarge,
+    /// 3: the cycle is below the latest accepted.
+    CyclePassed,
+    /// 4: no register of the timer has the address.
+    Address,
+    /// 5: a level that is not 0 or 1, or a sleep mode over 7.
+    Level,
+    /// 6: the next event is due at or before the cycle: advance first.
+    EventDue,
+    /// 7: the counter is halted asleep.
+    Asleep,
+    /// 8: the records exceed the area.
+    AreaTooSmall,
+}
+
+/// What an accepted call yields, or why it was not.
+#[derive(Clone, Copy, Debug, PartialEq, Eq)]
+pub enum Answer {
+    Refused(Refusal),
+    Done,
+    /// A byte read.
+    Value(u8),
+    /// The next event's cycle, or none where the counter does not run.
+    Next(Option<u64>),
+    /// The sync cycle of an advance that stopped before a tick whose records did not fit.
+    Paused(u64),
+}
+
+/// The answer, and how many bytes were written from the area's start.
+#[derive(Clone, Copy, Debug, PartialEq, Eq)]
+pub struct Outcome {
+    pub answer: Answer,
+    pub written: usize,
+}
+
+impl Refusal {
+    /// The number in the table of refusals.
+    pub fn number(self) -> u8 {
+        self as u8 + 1
+    }
+
+    pub(crate) fn of(number: u8) -> Self {
+        match number {
+            1 => Self::Configuration,
+            2 => Self::CycleTooLarge,
+            3 => Self::CyclePassed,
+            4 => Self::Address,
+            5 => Self::Level,
+            6 => Self::EventDue,
+            7 => Self::Asleep,
+            8 => Self::AreaTooSmall,
+            _ => unreachable!("a timer's refusals are 1 to 8, this is {number}"),
+        }
+    }
+}
+
+impl fmt::Display for Refusal {
+    fn fmt(&self, f: &mut fmt::Formatter) -> fmt::Result {
+        write!(f, "refused {}", self.number())
+    }
+}
+
+impl std::error::Error for Refusal {}
+
+impl Call {
+    /// The call in numbers: its kind is its place in this enum.
+    #[inline]
+    pub(crate) fn asked(self, cycle: u64) -> raw::Asked {
+        let (kind, pin, value, address) = match self {
+            Self::Advance => (0, 0, 0, 0),
+            Self::Next => (1, 0, 0, 0),
+            Self::Read(address) => (2, 0, 0, address),
+            Self::Peek(address) => (3, 0, 0, address),
+            Self::Write(address, value) => (4, 0, value, address),
+            Self::Tifr => (5, 0, 0, 0),
+            Self::Timsk => (6, 0, 0, 0),
+            Self::WriteTifr(value) => (7, 0, value, 0),
+            Self::WriteTimsk(value) => (8, 0, value, 0),
+            Self::Edge { pin, level } => (9, pin, level, 0),
+            Self::Output(level) => (10, 0, level, 0),
+            Self::Route(level) => (11, 0, level, 0),
+            Self::Sleep(mode) => (12, 0, mode, 0),
+            Self::Wake => (13, 0, 0, 0),
+            Self::Reduce(mask) => (14, 0, 0, mask),
+            Self::Tsm(level) => (15, 0, level, 0),
+            Self::Prescale(mask) => (16, 0, mask, 0),
+            Self::Reset => (17, 0, 0, 0),
+        };
+        raw::Asked { kind, pin, value, address, cycle }
+    }
+}
+
+impl Answer {
+    #[inline]
+    pub(crate) fn of(reply: &raw::Reply) -> Self {
+        match (reply.number, reply.what) {
+            (0, 0) => Self::Done,
+            (0, 1) => Self::Value(reply.value as u8),
+            (0, 2) => Self::Next(Some(reply.value)),
+            (0, 3) => Self::Next(None),
+            (0, _) => Self::Paused(reply.value),
+            (number, _) => Self::Refused(Refusal::of(number)),
+        }
+    }
+}

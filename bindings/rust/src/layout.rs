@@ -1,0 +1,90 @@
+//! That the library linked lays its types out as `raw` does: what it says of a timer's size and alignment, and a known
+//! reading, worked once by the library and read here field by field.
+
+use std::mem::{align_of, size_of};
+use std::sync::Once;
+
+use crate::answer::{Answer, Call, Outcome};
+use crate::config::Config;
+use crate::raw::{self, Shape};
+use crate::timer::{State, Timer};
+
+/// Calls on Timer1 of the ATmega328P that leave another number in each field: compares, count, mode, outputs, a
+/// capture by the comparator, sleep and power reduction.
+const CALLS: [(Call, u64); 17] = [
+    (Call::Write(0x89, 0x12), 0),
+    (Call::Write(0x88, 0x34), 0),
+    (Call::Write(0x8b, 0x56), 0),
+    (Call::Write(0x8a, 0x78), 0),
+    (Call::WriteTimsk(0x27), 0),
+    (Call::Write(0x80, 0xb1), 0),
+    (Call::Write(0x89, 0x00), 0),
+    (Call::Write(0x88, 0x22), 0),
+    (Call::Write(0x85, 0x00), 0),
+    (Call::Write(0x84, 0x10), 0),
+    (Call::Write(0x81, 0x41), 0),
+    (Call::Route(1), 0),
+    (Call::Prescale(1), 5),
+    (Call::Output(1), 7),
+    (Call::Sleep(2), 9),
+    (Call::Reduce(8), 11),
+    (Call::Write(0x8b, 0x5a), 13),
+];
+
+/// What the Rust reads then.
+const READING: State = State {
+    count: 25,
+    direction: 1,
+    blocked: false,
+    ocr: [0x1234, 0x5678, 0],
+    buffer: [0x22, 0x5678, 0],
+    oc: [0, 0, 0],
+    drives: [(1, 0), (1, 0), (0, 0)],
+    tccra: 0xb1,
+    tccrb: 0x41,
+    icr: 23,
+    temp: 0x5a,
+    tifr: 0x20,
+    timsk: 0x27,
+    sync: 11,
+    origin: 5,
+    latest: 13,
+    asleep: true,
+    reduced: true,
+    tsm: false,
+    routed: true,
+};
+
+/// The capture's two records.
+const RECORDS: [u8; 20] = [0x40, 0, 0, 0, 0, 0, 0, 7, 0x20, 0x10, 0x80, 0, 0, 0, 0, 0, 0, 7, 0x40, 0x10];
+
+/// Compares the library with this crate, once.
+///
+/// # Panics
+/// Where they differ.
+pub fn check() {
+    static CHECKED: Once = Once::new();
+    CHECKED.call_once(|| {
+        shapes();
+        reading();
+    });
+}
+
+fn shapes() {
+    // SAFETY: the function takes nothing and answers two numbers.
+    let said = unsafe { raw::paddlemauve_shape() };
+    let ours = Shape { size: size_of::<raw::Timer>() as u64, align: align_of::<raw::Timer>() as u64 };
+    assert_eq!(said, ours, "the library's timer is not of our shape: build bindings and library from one commit");
+}
+
+fn reading() {
+    let mut timer = Timer::start(&Config::M328P_TIMER1).expect("the preset is accepted");
+    let mut area = [0xa5; 24];
+    for (call, cycle) in CALLS {
+        let Outcome { answer, .. } = timer.call(call, cycle, &mut area);
+        assert_eq!(answer, Answer::Done, "the library does not take {call:?}");
+    }
+    assert_eq!(timer.state(), READING, "the library's timer does not read as ours");
+    assert_eq!(area[..20], RECORDS, "the library's records are not those of the reading");
+    assert_eq!(area[20..], [0xa5; 4], "the library wrote past its records");
+}

@@ -1,0 +1,31 @@
+//! The proved AVR bench timer, held and called from Rust.
+//!
+//! The timer's work is the static library of crate `shell`, every function of which is proved to meet its contract. This
+//! crate declares its types again, and is all that is not proved between that contract and a caller: it turns arguments
+//! into numbers and answers into enums, and checks once, when the first timer is made, that both sides lay the types out
+//! alike.
+//!
+//! ```
+//! use paddlemauve::{records, Advanced, Config, Timer};
+//!
+//! let mut area = [0; 110];
+//! let mut timer = Timer::new(&Config::M328P_TIMER0)?;
+//! timer.write(0x45, 0x01, 0, &mut area)?;
+//! assert_eq!(timer.next(0)?, Some(1));
+//! let Advanced::Done { written } = timer.advance(1, &mut area)? else { panic!("110 bytes hold an event") };
+//! assert_eq!(records(&area[..written]).count(), 3);
+//! assert_eq!(timer.read(0x46, 1)?, 1);
+//! # Ok::<(), paddlemauve::Refusal>(())
+//! ```
+
+mod answer;
+mod config;
+mod layout;
+mod raw;
+mod record;
+mod timer;
+
+pub use answer::{Answer, Call, Outcome, Refusal};
+pub use config::{Capture, Clocks, Compare, Config, Layout};
+pub use record::{records, Event, Record, EVENT, RECORD};
+pub use timer::{Advanced, State, Timer};

@@ -1,0 +1,166 @@
+//! What `crates/shell` exports, in C's layout: the configuration of `crates/config`, the timer of `crates/counter`, and
+//! `asked.rt` and `exports.rt`.
+
+#[repr(C)]
+#[derive(Clone, Copy, Debug, PartialEq, Eq)]
+pub struct Wire {
+    pub present: bool,
+    pub pin: u8,
+}
+
+#[repr(C)]
+#[derive(Clone, Copy, Debug, PartialEq, Eq)]
+pub struct Compare {
+    pub present: bool,
+    pub address: u16,
+    pub flag: u8,
+    pub force: u8,
+    pub wire: Wire,
+}
+
+#[repr(C)]
+#[derive(Clone, Copy, Debug, PartialEq, Eq)]
+pub struct Capture {
+    pub present: bool,
+    pub address: u16,
+    pub flag: u8,
+    pub wire: Wire,
+}
+
+#[repr(C)]
+#[derive(Clone, Copy, Debug, PartialEq, Eq)]
+pub struct Config {
+    pub id: u8,
+    pub wide: bool,
+    pub layout: u8,
+    pub tccra: u16,
+    pub tccrb: u16,
+    pub foc: u16,
+    pub tcnt: u16,
+    pub a: Compare,
+    pub b: Compare,
+    pub c: Compare,
+    pub icr: Capture,
+    pub tov: u8,
+    pub t: Wire,
+    pub clocks: u8,
+    pub group: u8,
+    pub prr: u16,
+    pub sleeprun: u8,
+}
+
+#[repr(C)]
+#[derive(Clone, Copy, Debug, PartialEq, Eq)]
+pub struct Counter {
+    pub count: u32,
+    pub direction: i32,
+    pub blocked: bool,
+}
+
+#[repr(C)]
+#[derive(Clone, Copy, Debug, PartialEq, Eq)]
+pub struct Drives {
+    pub enables: [u8; 3],
+    pub values: [u8; 3],
+}
+
+#[repr(C)]
+#[derive(Clone, Copy, Debug, PartialEq, Eq)]
+pub struct Registers {
+    pub tccra: u8,
+    pub tccrb: u8,
+    pub icr: u32,
+    pub temp: u8,
+}
+
+#[repr(C)]
+#[derive(Clone, Copy, Debug, PartialEq, Eq)]
+pub struct Flags {
+    pub tifr: u8,
+    pub timsk: u8,
+}
+
+#[repr(C)]
+#[derive(Clone, Copy, Debug, PartialEq, Eq)]
+pub struct Clock {
+    pub sync: u64,
+    pub origin: u64,
+    pub latest: u64,
+}
+
+#[repr(C)]
+#[derive(Clone, Copy, Debug, PartialEq, Eq)]
+pub struct Halts {
+    pub asleep: bool,
+    pub since: u64,
+    pub reduced: bool,
+    pub tsm: bool,
+    pub routed: bool,
+}
+
+#[repr(C)]
+#[derive(Clone, Copy, Debug, PartialEq, Eq)]
+pub struct Timer {
+    pub config: Config,
+    pub counter: Counter,
+    pub ocr: [u32; 3],
+    pub buffer: [u32; 3],
+    pub oc: [u8; 3],
+    pub drives: Drives,
+    pub registers: Registers,
+    pub flags: Flags,
+    pub clock: Clock,
+    pub halts: Halts,
+}
+
+#[repr(C)]
+pub struct Begun {
+    pub number: u8,
+    pub timer: Timer,
+}
+
+#[repr(C)]
+#[derive(Clone, Copy)]
+pub struct Asked {
+    pub kind: u8,
+    pub pin: u8,
+    pub value: u8,
+    pub address: u16,
+    pub cycle: u64,
+}
+
+#[repr(C)]
+#[derive(Clone, Copy)]
+pub struct Reply {
+    pub number: u8,
+    pub what: u8,
+    pub value: u64,
+    pub written: u64,
+}
+
+/// A `&mut [u8]` of Rattle.
+#[repr(C)]
+pub struct Area {
+    pub start: *mut u8,
+    pub length: usize,
+}
+
+impl Area {
+    pub fn of(area: &mut [u8]) -> Self {
+        Self { start: area.as_mut_ptr(), length: area.len() }
+    }
+}
+
+/// The bytes that a timer takes, and the multiple of which its address must be.
+#[repr(C)]
+#[derive(Clone, Copy, Debug, PartialEq, Eq)]
+pub struct Shape {
+    pub size: u64,
+    pub align: u64,
+}
+
+extern "C" {
+    pub fn paddlemauve_shape() -> Shape;
+    pub fn paddlemauve_start(config: Config) -> Begun;
+    pub fn paddlemauve_call(timer: &mut Timer, asked: Asked, area: Area) -> Reply;
+}

@@ -1,0 +1,43 @@
+//! The records that calls write: ten bytes each, from the start of the area.
+
+/// The bytes of one record.
+pub const RECORD: usize = 10;
+
+/// What an advance's one event needs at most.
+pub const EVENT: usize = 11 * RECORD;
+
+#[derive(Clone, Copy, Debug, PartialEq, Eq)]
+pub enum Event {
+    /// A compare output drives its pin, or no longer does.
+    Pin { pin: u8, enable: bool, value: bool },
+    /// TIFR bits raised, and the request lines overflow, A, B, capture and C as bits 4 to 0.
+    Flags { raised: u8, lines: u8 },
+    /// 1 compare A, 2 compare B, 3 overflow, 4 capture.
+    Trigger { trigger: u8, id: u8 },
+}
+
+#[derive(Clone, Copy, Debug, PartialEq, Eq)]
+pub struct Record {
+    pub cycle: u64,
+    pub event: Event,
+}
+
+impl Record {
+    /// The record of ten bytes: kind (2 bits), cycle (62), body (16), most significant first.
+    pub fn read(bytes: &[u8; RECORD]) -> Self {
+        let word = bytes[..8].iter().fold(0, |word, &b| word << 8 | b as u64);
+        let body = u16::from_be_bytes([bytes[8], bytes[9]]);
+        let high = bytes[8];
+        let event = match word >> 62 {
+            0 => Event::Pin { pin: high, enable: body & 0x80 != 0, value: body & 0x40 != 0 },
+            1 => Event::Flags { raised: high, lines: bytes[9] >> 3 },
+            _ => Event::Trigger { trigger: high >> 4, id: (body >> 4) as u8 },
+        };
+        Self { cycle: word & (1 << 62) - 1, event }
+    }
+}
+
+/// The records of the bytes that a call wrote, `&area[..written]`.
+pub fn records(written: &[u8]) -> impl Iterator<Item = Record> + '_ {
+    written.chunks_exact(RECORD).map(|r| Record::read(r.try_into().expect("chunks of ten bytes")))
+}

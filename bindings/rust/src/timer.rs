@@ -1,0 +1,233 @@
+//! A timer, held by its owner and lent to the library for each call.
+
+use crate::answer::{Answer, Call, Outcome, Refusal};
+use crate::config::Config;
+use crate::{layout, raw};
+
+/// A timer of an accepted configuration. It can only be made by [`Timer::new`] and changed by the calls, so the
+/// library's one premise, that the timer is valid, always holds.
+#[derive(Clone, Debug, PartialEq, Eq)]
+pub struct Timer {
+    raw: raw::Timer,
+}
+
+/// A timer as it stands, not synced.
+#[derive(Clone, Copy, Debug, PartialEq, Eq)]
+pub struct State {
+    pub count: u32,
+    /// 1 or −1.
+    pub direction: i32,
+    /// A write of the count blocks the next match.
+    pub blocked: bool,
+    /// The compares at work in channels A, B and C, and those written.
+    pub ocr: [u32; 3],
+    pub buffer: [u32; 3],
+    /// The output levels.
+    pub oc: [u8; 3],
+    /// Enable and value of the drive last recorded for each channel.
+    pub drives: [(u8, u8); 3],
+    pub tccra: u8,
+    pub tccrb: u8,
+    pub icr: u32,
+    pub temp: u8,
+    pub tifr: u8,
+    pub timsk: u8,
+    pub sync: u64,
+    pub origin: u64,
+    pub latest: u64,
+    pub asleep: bool,
+    pub reduced: bool,
+    pub tsm: bool,
+    pub routed: bool,
+}
+
+/// How an advance ended, with the bytes written.
+#[derive(Clone, Copy, Debug, PartialEq, Eq)]
+pub enum Advanced {
+    Done {
+        written: usize,
+    },
+    /// It stopped before a tick whose records did not fit: read the area, then advance again.
+    Paused {
+        sync: u64,
+        written: usize,
+    },
+}
+
+impl Timer {
+    /// A fresh timer at cycle 0; refused where the configuration breaks a rule.
+    ///
+    /// # Panics
+    /// Where the library that was linked does not lay a timer out as this crate does.
+    pub fn new(config: &Config) -> Result<Self, Refusal> {
+        layout::check();
+        Self::start(config)
+    }
+
+    pub(crate) fn start(config: &Config) -> Result<Self, Refusal> {
+        // SAFETY: the function takes any configuration, and layout::check has found the library's layouts to be ours.
+        let begun = unsafe { raw::paddlemauve_start(config.raw()) };
+        match begun.number {
+            0 => Ok(Self { raw: begun.timer }),
+            number => Err(Refusal::of(number)),
+        }
+    }
+
+    /// Any call, at its cycle, with the area for its records.
+    #[inline]
+    pub fn call(&mut self, call: Call, cycle: u64, area: &mut [u8]) -> Outcome {
+        // SAFETY: the timer came from the library and only the library has changed it, so it is valid; the area is lent
+        // for the call alone.
+        let reply = unsafe { raw::paddlemauve_call(&mut self.raw, call.asked(cycle), raw::Area::of(area)) };
+        Outcome { answer: Answer::of(&reply), written: reply.written as usize }
+    }
+
+    /// Time passes up to a cycle, or to the first tick whose records do not fit the area.
+    #[inline]
+    pub fn advance(&mut self, cycle: u64, area: &mut [u8]) -> Result<Advanced, Refusal> {
+        let Outcome { answer, written } = self.call(Call::Advance, cycle, area);
+        match answer {
+            Answer::Refused(why) => Err(why),
+            Answer::Paused(sync) => Ok(Advanced::Paused { sync, written }),
+            _ => Ok(Advanced::Done { written }),
+        }
+    }
+
+    /// The next event's cycle, or none where the counter does not run.
+    #[inline]
+    pub fn next(&mut self, cycle: u64) -> Result<Option<u64>, Refusal> {
+        match self.call(Call::Next, cycle, &mut []).answer {
+            Answer::Refused(why) => Err(why),
+            Answer::Next(at) => Ok(at),
+            other => unreachable!("next answers {other:?}"),
+        }
+    }
+
+    /// A register's byte as a program reads it: a low byte fills TEMP, a high byte is TEMP.
+    #[inline]
+    pub fn read(&mut self, address: u16, cycle: u64) -> Result<u8, Refusal> {
+        self.byte(Call::Read(address), cycle)
+    }
+
+    /// A register's byte; TEMP is left as it is.
+    #[inline]
+    pub fn peek(&mut self, address: u16, cycle: u64) -> Result<u8, Refusal> {
+        self.byte(Call::Peek(address), cycle)
+    }
+
+    /// A register's byte is written; yields the bytes of the records.
+    #[inline]
+    pub fn write(&mut self, address: u16, value: u8, cycle: u64, area: &mut [u8]) -> Result<usize, Refusal> {
+        self.recorded(Call::Write(address, value), cycle, area)
+    }
+
+    pub fn tifr(&mut self, cycle: u64) -> Result<u8, Refusal> {
+        self.byte(Call::Tifr, cycle)
+    }
+
+    pub fn timsk(&mut self, cycle: u64) -> Result<u8, Refusal> {
+        self.byte(Call::Timsk, cycle)
+    }
+
+    /// Ones clear bits of TIFR.
+    pub fn write_tifr(&mut self, ones: u8, cycle: u64) -> Result<(), Refusal> {
+        self.silent(Call::WriteTifr(ones), cycle)
+    }
+
+    pub fn write_timsk(&mut self, mask: u8, cycle: u64) -> Result<(), Refusal> {
+        self.silent(Call::WriteTimsk(mask), cycle)
+    }
+
+    /// A pin's edge to a level: a capture, a tick of the T pin, or nothing; yields the bytes of the records.
+    pub fn edge(&mut self, pin: u8, level: u8, cycle: u64, area: &mut [u8]) -> Result<usize, Refusal> {
+        self.recorded(Call::Edge { pin, level }, cycle, area)
+    }
+
+    /// The comparator's output takes a level; yields the bytes of the records.
+    pub fn output(&mut self, level: u8, cycle: u64, area: &mut [u8]) -> Result<usize, Refusal> {
+        self.recorded(Call::Output(level), cycle, area)
+    }
+
+    /// The comparator's output is routed to the capture (1) or not (0).
+    pub fn route(&mut self, level: u8, cycle: u64) -> Result<(), Refusal> {
+        self.silent(Call::Route(level), cycle)
+    }
+
+    pub fn sleep(&mut self, mode: u8, cycle: u64) -> Result<(), Refusal> {
+        self.silent(Call::Sleep(mode), cycle)
+    }
+
+    pub fn wake(&mut self, cycle: u64) -> Result<(), Refusal> {
+        self.silent(Call::Wake, cycle)
+    }
+
+    /// The power reduction register takes a mask.
+    pub fn reduce(&mut self, mask: u16, cycle: u64) -> Result<(), Refusal> {
+        self.silent(Call::Reduce(mask), cycle)
+    }
+
+    pub fn tsm(&mut self, level: u8, cycle: u64) -> Result<(), Refusal> {
+        self.silent(Call::Tsm(level), cycle)
+    }
+
+    /// The prescalers that the mask names are reset.
+    pub fn prescale(&mut self, mask: u8, cycle: u64) -> Result<(), Refusal> {
+        self.silent(Call::Prescale(mask), cycle)
+    }
+
+    /// The timer is reset; yields the bytes of the records.
+    pub fn reset(&mut self, cycle: u64, area: &mut [u8]) -> Result<usize, Refusal> {
+        self.recorded(Call::Reset, cycle, area)
+    }
+
+    pub fn state(&self) -> State {
+        let raw::Timer { counter, ocr, buffer, oc, drives, registers, flags, clock, halts, .. } = self.raw;
+        State {
+            count: counter.count,
+            direction: counter.direction,
+            blocked: counter.blocked,
+            ocr,
+            buffer,
+            oc,
+            drives: [0, 1, 2].map(|ch| (drives.enables[ch], drives.values[ch])),
+            tccra: registers.tccra,
+            tccrb: registers.tccrb,
+            icr: registers.icr,
+            temp: registers.temp,
+            tifr: flags.tifr,
+            timsk: flags.timsk,
+            sync: clock.sync,
+            origin: clock.origin,
+            latest: clock.latest,
+            asleep: halts.asleep,
+            reduced: halts.reduced,
+            tsm: halts.tsm,
+            routed: halts.routed,
+        }
+    }
+
+    /// A call that yields a byte and writes no record.
+    #[inline]
+    fn byte(&mut self, call: Call, cycle: u64) -> Result<u8, Refusal> {
+        match self.call(call, cycle, &mut []).answer {
+            Answer::Refused(why) => Err(why),
+            Answer::Value(byte) => Ok(byte),
+            other => unreachable!("{call:?} answers {other:?}"),
+        }
+    }
+
+    /// A call that writes records and yields nothing else.
+    #[inline]
+    fn recorded(&mut self, call: Call, cycle: u64, area: &mut [u8]) -> Result<usize, Refusal> {
+        let Outcome { answer, written } = self.call(call, cycle, area);
+        match answer {
+            Answer::Refused(why) => Err(why),
+            _ => Ok(written),
+        }
+    }
+
+    /// A call that yields nothing and writes no record.
+    fn silent(&mut self, call: Call, cycle: u64) -> Result<(), Refusal> {
+        self.recorded(call, cycle, &mut []).map(|_| ())
+    }
+}

@@ -1,0 +1,4 @@
+pub mod Past
+pub mod Replied
+pub mod Shape
+pub mod Walk

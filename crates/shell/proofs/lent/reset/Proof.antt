@@ -1,0 +1,33 @@
+-- `shell::lent::reset` meets its contract: the walk of `Walk.antt`, at the core `timer::calls::reset`.
+-- Assumes nothing.
+use mathlib.Core.Path.{_≡_, refl}
+use mir.Syntax.{Fn}
+use contract.Running.{givenOf, tables, tablesOf}
+use denote.Triple.Spec.{tripleOf}
+use denote.Triple.Table.{entered, cited}
+use Rattle.tick.specs.Passage.{ticks}
+use Rattle.counter.specs.Valid.{Valid}
+use Rattle.answers.specs.Answers.{Tells}
+use Rattle.timer.specs.Calls.{answered}
+use Rattle.timer.specs.declared.calls.Call.{Call}
+use Rattle.shell.proofs.Walk.{lentFn, lent-meets}
+use Rattle.timer.proofs.calls.reset as core
+use Rattle.timer.proofs.calls.reset.Symbol as core-def
+use Rattle.timer.proofs.calls.reset.Symbol.{name as #core}
+use Rattle.timer.proofs.calls.reset.Met as core-thm
+use Rattle.shell.proofs.lent.reset.Key.{name as #lent}
+use Rattle.shell.proofs.lent.reset as lent
+use Rattle.shell.proofs.lent.reset.Statement as stated
+use Rattle.shell.proofs.lent.reset.Code as code
+
+-- the walk is of this function's code: where it is not, the error stands here
+code-is : _≡_ {A = Fn} code.function (lentFn #core)
+code-is = refl
+
+pub reset-spec : {M : Type 1} → stated.statement M
+unfolding code.routine tablesOf
+reset-spec 𝓤 H 𝓜 𝓖 𝓡 =
+    entered 𝓤 H (tripleOf 𝓤 H (𝓖 .A) lent.signature (lent.spec 𝓤 H (𝓖 .A) (𝓜 .mem) (𝓡 .run)))
+    (tables 𝓤 H 𝓜 𝓡 code.env .C) (tables 𝓤 H 𝓜 𝓡 code.env .Λ) #lent code.function (code.unfolded 𝓤 H 𝓜 𝓡)
+    (lent-meets (λ h n ys. Valid h) (λ h n ys. Tells (answered ticks h Call.Reset (n .0) ys)) 𝓤 H (𝓖 .A) (givenOf 𝓤 H 𝓜 𝓖) #core (tablesOf 𝓤 H 𝓜 (tables 𝓤 H 𝓜 𝓡 code.env))
+    (cited 𝓤 H (tripleOf 𝓤 H (𝓖 .A) core.signature (core.spec 𝓤 H (𝓖 .A) (𝓜 .mem) (𝓡 .run))) 𝓜 𝓡 code.env #core core-def.routine code.calls-timer·calls·reset (core-thm.met 𝓤 H 𝓜 𝓖 𝓡)))

@@ -1,0 +1,2 @@
+
+// Nothing is appended: the lean machine has no scheduler.

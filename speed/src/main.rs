@@ -1,0 +1,44 @@
+//! `speed`: the timer beside the Rust, one driver and one build for both. Nanoseconds by the clock; instructions by
+//! callgrind, as the difference of two runs: `speed run ROW SIDE STEPS` and `speed grow SELECT POWER STEPS`.
+
+mod callgrind;
+mod growth;
+mod sides;
+mod table;
+mod work;
+
+use sides::{Ours, Side, Theirs};
+use work::WORKS;
+
+fn main() {
+    let arguments: Vec<String> = std::env::args().skip(1).collect();
+    match arguments.iter().map(String::as_str).collect::<Vec<_>>()[..] {
+        [] => {
+            table::print();
+            growth::print();
+        }
+        ["run", row, side, steps] => println!("{}", row_of(number(row) as usize, side, number(steps))),
+        ["grow", select, power, steps] => {
+            println!("{}", growth::run(number(select) as u8, number(power) as u32, number(steps)));
+        }
+        _ => usage(),
+    }
+}
+
+fn row_of(row: usize, side: &str, steps: u64) -> u64 {
+    let work = WORKS.get(row).unwrap_or_else(|| usage());
+    match side {
+        Ours::NAME => work::run(&mut work::ready::<Ours>(work), work.step, steps),
+        Theirs::NAME => work::run(&mut work::ready::<Theirs>(work), work.step, steps),
+        _ => usage(),
+    }
+}
+
+fn number(word: &str) -> u64 {
+    word.parse().unwrap_or_else(|_| usage())
+}
+
+fn usage() -> ! {
+    eprintln!("usage: speed | speed run ROW {}|{} STEPS | speed grow SELECT POWER STEPS", Ours::NAME, Theirs::NAME);
+    std::process::exit(2)
+}
