@@ -6,7 +6,7 @@ mod peripheral;
 use std::collections::VecDeque;
 
 use crate::scheduler::{EventKey, Scheduler};
-pub use peripheral::Peripheral;
+pub use peripheral::{Override, Peripheral, Trigger};
 
 /// Addresses that the flag and mask bytes of the one timer have in `Cpu::data`.
 pub const TIFR: u16 = 0;
@@ -32,26 +32,6 @@ impl Cpu {
         self.lines[vector as usize] = on;
         self.requests += 1;
     }
-}
-
-/// The override of a pin by a compare output, as timer.rs uses it.
-#[derive(Clone, Copy, Default)]
-pub struct Override {
-    pub ov_enable: u8,
-    pub ov_value: u8,
-}
-
-#[derive(Clone, Copy, Debug, PartialEq, Eq)]
-pub enum Trigger {
-    TimerCompA(u8),
-    TimerCompB(u8),
-    TimerOvf(u8),
-    TimerCapt(u8),
-    AcOutput,
-    AcCapture,
-    PrescalerReset,
-    TimerSync,
-    GtccrStrobe,
 }
 
 /// What a peripheral told the machine, in its order. A pin event bears the override, not the level.

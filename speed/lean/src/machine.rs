@@ -3,7 +3,7 @@
 #[path = "../../../oracle/mcs/src/machine/peripheral.rs"]
 mod peripheral;
 
-pub use peripheral::Peripheral;
+pub use peripheral::{Override, Peripheral, Trigger};
 
 /// Addresses that the flag and mask bytes of the one timer have in `Cpu::data`.
 pub const TIFR: u16 = 0;
@@ -26,25 +26,6 @@ impl Cpu {
         let bit = 1 << vector >> 1;
         self.lines = if on { self.lines | bit } else { self.lines & !bit };
     }
-}
-
-#[derive(Clone, Copy, Default)]
-pub struct Override {
-    pub ov_enable: u8,
-    pub ov_value: u8,
-}
-
-#[derive(Clone, Copy, Debug, PartialEq, Eq)]
-pub enum Trigger {
-    TimerCompA(u8),
-    TimerCompB(u8),
-    TimerOvf(u8),
-    TimerCapt(u8),
-    AcOutput,
-    AcCapture,
-    PrescalerReset,
-    TimerSync,
-    GtccrStrobe,
 }
 
 #[derive(Clone, Copy, Debug, PartialEq, Eq)]

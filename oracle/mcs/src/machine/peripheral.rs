@@ -1,4 +1,26 @@
-use super::{Cx, Trigger};
+//! What timer.rs and irqflags.rs tell a machine, and are called by, whichever machine stands in.
+
+use super::Cx;
+
+/// The override of a pin by a compare output, as timer.rs uses it.
+#[derive(Clone, Copy, Default)]
+pub struct Override {
+    pub ov_enable: u8,
+    pub ov_value: u8,
+}
+
+#[derive(Clone, Copy, Debug, PartialEq, Eq)]
+pub enum Trigger {
+    TimerCompA(u8),
+    TimerCompB(u8),
+    TimerOvf(u8),
+    TimerCapt(u8),
+    AcOutput,
+    AcCapture,
+    PrescalerReset,
+    TimerSync,
+    GtccrStrobe,
+}
 
 /// The calls of a peripheral that the timer or the flag registers answer.
 #[allow(unused_variables)]
