@@ -12,7 +12,7 @@ use borrow.Author.Tests.{leb-true}
 use Rattle.counter.specs.declared.advance.Logged.{Logged}
 use Rattle.counter.specs.declared.next.Next.the-variants.{At, Never}
 use Rattle.counter.specs.declared.state.Timer.{Timer}
-use Rattle.wave.specs.declared.units.Cycle.{Cycle}
+use Rattle.time.specs.declared.units.Cycle.{Cycle}
 use Rattle.counter.specs.Next.{nextAt, nextOf}
 use Rattle.counter.specs.Halts.{latestTo}
 use Rattle.counter.specs.Modes.{runningOf}

@@ -5,7 +5,7 @@ pub mod refusals;
 use counter::advance::Logged;
 use counter::next::Next;
 use counter::state::Timer;
-use wave::units::Cycle;
+use time::units::Cycle;
 ghost use mathlib.Core.Path.{_≡_};
 ghost use Prim.Native.Nat.{_≤_};
 ghost use Rattle.counter.specs.Halts.{latestTo};

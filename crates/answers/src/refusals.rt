@@ -2,7 +2,7 @@
 
 use counter::next::Next;
 use counter::state::Timer;
-use wave::units::Cycle;
+use time::units::Cycle;
 ghost use mathlib.Core.Path.{_≡_};
 ghost use Rattle.counter.specs.Valid.{Valid};
 ghost use Rattle.answers.specs.Refusals.{isDue, late, refusal};

@@ -1,18 +1,11 @@
 // What a script works on: one timer, one scheduler, and where reading and writing stand.
 
-use crate::page::Page;
-use crate::page::byte;
-use crate::page::number;
-use crate::page::text;
-use crate::words::EXTRA_WORD;
-use crate::words::MALFORMED;
-use crate::words::MISSING_WORD;
-use crate::words::TOO_LARGE;
-use crate::words::UNKNOWN_COMMAND;
-use crate::words::UNKNOWN_KEY;
-use crate::words::UNKNOWN_NAME;
 use config::Config;
 use counter::state::Timer;
+use page::Page;
+use page::byte;
+use page::text;
+use page::unreadable;
 use scheduler::Scheduler;
 ghost use Rattle.bench.specs.Bench.{Sound};
 
@@ -24,20 +17,6 @@ pub struct Bench {
     pub line: u64,
     pub held: usize,
     pub at: usize,
-}
-
-// Puts why a line cannot be read.
-fn reason(page: &mut Page, at: usize, why: u8) -> usize {
-    match why {
-        UNKNOWN_COMMAND => text(page, at, b": unknown command"),
-        UNKNOWN_KEY => text(page, at, b": unknown key"),
-        UNKNOWN_NAME => text(page, at, b": unknown name"),
-        MISSING_WORD => text(page, at, b": missing word"),
-        EXTRA_WORD => text(page, at, b": extra word"),
-        MALFORMED => text(page, at, b": malformed number"),
-        TOO_LARGE => text(page, at, b": number too large"),
-        _ => text(page, at, b": line too long"),
-    }
 }
 
 impl Bench {
@@ -80,8 +59,7 @@ impl Bench {
         requires { ⌜ Sound self ⌝ }
         ensures { λ r. ⌜ Sound r ⌝ }
     {
-        let at = number(page, self.at, b"error line ", self.line);
-        let at = reason(page, at, why);
+        let at = unreadable(page, self.at, self.line, why);
         self.answered(page, at)
     }
 }

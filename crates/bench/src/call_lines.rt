@@ -1,25 +1,21 @@
 // Lines that call the timer.
 
 use crate::bench::Bench;
-use crate::page::Page;
-use crate::page::number;
-use crate::page::register;
-use crate::page::text;
-use crate::page::two;
-use crate::words::Cursor;
-use crate::words::FINE;
-use crate::words::Taken;
-use crate::words::decimal;
-use crate::words::exactly;
-use crate::words::hexadecimal;
-use crate::words::low8;
-use crate::words::low16;
-use crate::words::none;
-use answers::Answer;
 use answers::Outcome;
-use counter::next::Next;
+use display::answer::answer;
+use page::Page;
+use page::number;
+use time::units::Cycle;
 use timer::calls::Call;
-use wave::units::Cycle;
+use words::Cursor;
+use words::FINE;
+use words::Taken;
+use words::decimal;
+use words::exactly;
+use words::hexadecimal;
+use words::low8;
+use words::low16;
+use words::none;
 ghost use Prim.Native.Nat.{_≤_};
 ghost use Rattle.bench.specs.Bench.{Sound};
 ghost use Rattle.counter.specs.Valid.{Valid};
@@ -118,59 +114,6 @@ fn changed(area: &[u8], from: usize) -> usize {
         i += 1;
     }
     area.len()
-}
-
-// Puts the bytes written.
-fn records(page: &mut Page, from: usize, area: &[u8], written: usize) -> usize {
-    let at = number(page, from, b" bytes=", written as u64);
-    if written == 0 {
-        return text(page, at, b" records=-");
-    }
-    let mut at = text(page, at, b" records=");
-    let mut i = 0;
-    while i < area.len() {
-        if written <= i {
-            return at;
-        }
-        at = two(page, at, area[i]);
-        i += 1;
-    }
-    at
-}
-
-// Puts the next event of the timer that a call leaves, and the bytes written.
-fn next(page: &mut Page, from: usize, o: Outcome, area: &[u8]) -> usize
-    requires { ⌜ Valid (o .timer) ⌝ }
-{
-    let t = o.timer;
-    let next = t.next();
-    let at = match next {
-        Next::At(cycle) => number(page, from, b" next=", cycle.0),
-        Next::Never => text(page, from, b" next=none"),
-    };
-    records(page, at, area, o.written)
-}
-
-// Puts a call's answer.
-fn answer(page: &mut Page, from: usize, o: Outcome, area: &[u8]) -> usize
-    requires { ⌜ Valid (o .timer) ⌝ }
-{
-    let answer = o.answer;
-    match answer {
-        Answer::Refused(n) => number(page, from, b"refused ", n as u64),
-        Answer::Value(value) => {
-            let at = register(page, from, b"ok value=", value);
-            next(page, at, o, area)
-        }
-        Answer::Paused(cycle) => {
-            let at = number(page, from, b"paused cycle=", cycle.0);
-            records(page, at, area, o.written)
-        }
-        _ => {
-            let at = text(page, from, b"ok value=-");
-            next(page, at, o, area)
-        }
-    }
 }
 
 // Keeps the timer that a call leaves, and puts the answer, or where the area changed beyond what was written.

@@ -4,15 +4,15 @@ use crate::bench::Bench;
 use crate::call_lines::call_line;
 use crate::config_lines::config_line;
 use crate::config_lines::preset_line;
-use crate::page::Page;
-use crate::pin_lines::pin_line;
-use crate::sched_lines::sched_line;
 use crate::state_lines::state_line;
-use crate::words::TOO_LONG;
-use crate::words::UNKNOWN_COMMAND;
-use crate::words::find;
-use crate::words::place;
-use crate::words::skip;
+use page::Page;
+use script::pin_lines::pin_line;
+use script::sched_lines::sched_line;
+use words::TOO_LONG;
+use words::UNKNOWN_COMMAND;
+use words::find;
+use words::place;
+use words::skip;
 ghost use Rattle.bench.specs.Bench.{Sound};
 
 // The bytes of the longest line that can be read.
@@ -20,6 +20,18 @@ pub const LONGEST: usize = 500;
 
 // A line's bytes so far.
 pub type Line = [u8; LONGEST];
+
+// Answers a sched line from the place after its name, and keeps the scheduler that it leaves.
+fn scheduled(b: Bench, line: &[u8], at: usize, page: &mut Page) -> Bench
+    requires { ⌜ Sound b ⌝ }
+    ensures { λ r. ⌜ Sound r ⌝ }
+{
+    let left = sched_line(b.scheduler, page, b.at, b.line, line, at);
+    let scheduler = left.scheduler;
+    let mut b = b;
+    b.scheduler = scheduler;
+    b.answered(page, left.at)
+}
 
 // Answers a line without its comment; nothing where it has no words.
 fn command(b: Bench, line: &[u8], page: &mut Page) -> Bench
@@ -31,6 +43,7 @@ fn command(b: Bench, line: &[u8], page: &mut Page) -> Bench
         return b;
     }
     let end = find(line, start, b' ');
+    // The calls come first, by their words: call_lines goes by these places.
     let name = place(
         b"advance next reset wake tifr timsk read peek prr wtifr wtimsk presc route acout sleep tsm write edge config preset state pin sched",
         &line[start..end],
@@ -40,8 +53,11 @@ fn command(b: Bench, line: &[u8], page: &mut Page) -> Bench
         18 => config_line(b, line, end, page),
         19 => preset_line(b, line, end, page),
         20 => state_line(b, line, end, page),
-        21 => pin_line(b, line, end, page),
-        22 => sched_line(b, line, end, page),
+        21 => {
+            let at = pin_line(page, b.at, b.line, line, end);
+            b.answered(page, at)
+        }
+        22 => scheduled(b, line, end, page),
         _ => b.unreadable(page, UNKNOWN_COMMAND),
     }
 }

@@ -3,24 +3,17 @@
 mod bench;
 mod call_lines;
 mod config_lines;
-mod keys;
 mod lines;
-mod page;
-mod pin_lines;
-mod presets;
-mod sched_lines;
 mod state_lines;
-mod volts;
-mod words;
 
 use crate::bench::Bench;
 use crate::lines::LONGEST;
 use crate::lines::Line;
 use crate::lines::answer;
-use crate::page::Page;
-use crate::page::SIZE;
-use crate::page::flush;
 use libc::STDIN_FILENO;
+use page::Page;
+use page::SIZE;
+use page::flush;
 ghost use Rattle.bench.specs.Bench.{Sound};
 
 // Holds a byte of a line that is not too long yet; yields how many are held.

@@ -8,7 +8,7 @@ use Rattle.config.specs.declared.Capture.{Capture}
 use Rattle.config.specs.declared.Compare.{Compare}
 use Rattle.config.specs.declared.Config.{Config}
 use Rattle.config.specs.declared.Wire.{Wire}
-use Rattle.config.specs.Few.{also, has, distinct, within}
+use Rattle.few.specs.Few.{also, register, has, distinct, within}
 
 -- layout 0: two control registers, TCCRnA and TCCRnB; layout 1 is the single one
 abbrev pub split : ℕ → Bool
@@ -33,10 +33,6 @@ layoutRule c = cond (split (c .layout)) (not (eqb (c .tccra) (c .tccrb))) (not (
 -- OCRA present except single without WGM, which has no compare
 unfoldable pub compareRule : Config → Bool
 compareRule c = cond (bare (c .layout)) (not (c .a .present) && not (c .b .present) && not (c .c .present)) (c .a .present)
-
--- a register's address, with that of its high byte when wide
-abbrev pub register : Bool → Bool → ℕ → List ℕ → List ℕ
-register present wide address l = also (present && wide) (address + 1) (also present address l)
 
 -- the control addresses, and a force address that is none of them
 unfoldable pub controls : Config → List ℕ

@@ -1,12 +1,10 @@
 // What is fixed of a timer, and the rules that it keeps.
 
-pub mod few;
-
-use crate::few::Few;
+use few::Few;
 ghost use mathlib.Core.Path.{_≡_};
-ghost use Prim.Native.Nat.{_+_, _<_, _≤_};
-ghost use Rattle.config.specs.Few.{held};
-ghost use Rattle.config.specs.Config.{split, bare, oneBit, flagged, controls, owned, flagsOf, pinsOf, choiceRule, widthRule, layoutRule, compareRule, addressRule, flagRule, pinRule, accepted, register, pinned, least, pairAt, controlAt, placeOf};
+ghost use Prim.Native.Nat.{_<_, _≤_};
+ghost use Rattle.few.specs.Few.{held};
+ghost use Rattle.config.specs.Config.{split, bare, oneBit, flagged, controls, owned, flagsOf, pinsOf, choiceRule, widthRule, layoutRule, compareRule, addressRule, flagRule, pinRule, accepted, least, pairAt, controlAt, placeOf};
 
 // Where the control bits stand: TCCRnA and TCCRnB, one TCCRn, or one TCCRn without WGM.
 pub const SPLIT: u8 = 0;
@@ -88,26 +86,6 @@ pub fn is_flagged(present: bool, flag: u8) -> bool
     ensures { λ r. ⌜ r ≡ flagged present flag ⌝ }
 {
     if present { is_one_bit(flag) } else { flag == 0 }
-}
-
-impl Few {
-    // A register's address, and that of its high byte in a wide timer.
-    pub fn register(self, present: bool, wide: bool, address: u16) -> Few
-        requires { ⌜ self .len ≤ 11 ⌝ }
-        ensures { λ r. ⌜ (held r ≡ register present wide address (held self)) × (r .len ≤ self .len + 2) ⌝ }
-    {
-        let low = address as u32;
-        let first = self.also(present, low);
-        first.also(present & wide, low + 1)
-    }
-
-    // A pin, where there is one.
-    pub fn pinned(self, wire: Wire) -> Few
-        requires { ⌜ self .len < 13 ⌝ }
-        ensures { λ r. ⌜ (held r ≡ pinned wire (held self)) × (r .len ≤ self .len + 1) ⌝ }
-    {
-        self.also(wire.present, wire.pin as u32)
-    }
 }
 
 impl Config {
@@ -266,12 +244,12 @@ impl Config {
         let wc = c.wire;
         let wi = icr.wire;
         let wt = self.t;
-        Few::new()
-            .pinned(wa)
-            .pinned(wb)
-            .pinned(wc)
-            .pinned(wi)
-            .pinned(wt)
+        let two = Few::new()
+            .also(wa.present, wa.pin as u32)
+            .also(wb.present, wb.pin as u32);
+        let four = two.also(wc.present, wc.pin as u32)
+            .also(wi.present, wi.pin as u32);
+        four.also(wt.present, wt.pin as u32)
     }
 
     // Owned addresses are distinct and at most 511.

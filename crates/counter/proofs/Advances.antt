@@ -8,30 +8,35 @@ use mathlib.Core.List.{List}
 use lib.ListN.{length, take, drop, take-append-drop}
 use lib.Seq.{length-take-le}
 use Rattle.wave.specs.declared.kinds.Wave.{Wave}
-use Rattle.wave.specs.declared.units.Prescaler.{Prescaler}
-use Rattle.wave.specs.Units.{ticksAt, cycleAt}
+use Rattle.time.specs.declared.units.Prescaler.{Prescaler}
+use Rattle.time.specs.Units.{ticksAt, cycleAt}
 use Rattle.wave.specs.Distance.{gap}
-use Rattle.wave.proofs.Clocks.{ticks-mono, cycle-mono, tick-before}
-use Rattle.tick.specs.declared.run.Progress.{Progress}
-use Rattle.tick.specs.declared.run.Aside.{Aside}
-use Rattle.tick.specs.declared.run.Finished.{Finished}
+use Rattle.time.proofs.Clocks.{ticks-mono, cycle-mono, tick-before}
+use Rattle.passage.specs.declared.Progress.{Progress}
+use Rattle.passage.specs.declared.Aside.{Aside}
+use Rattle.passage.specs.declared.Finished.{Finished}
 use Rattle.tick.specs.declared.setting.Moving.{Moving}
 use Rattle.tick.specs.declared.setting.Setting.{Setting}
 use Rattle.tick.specs.Skip.{linear}
-use Rattle.tick.specs.Passage.{ticks, Ready, Ran, Made, Finishes}
+use Rattle.passage.specs.Passage.{ticks, Ready, Ran, Made, Finishes}
 use Rattle.tick.specs.Sound.{Steady}
-use Rattle.tick.proofs.Law.{linear-none}
-use Rattle.tick.proofs.Loops.{within, runOf, begins, ended, joined}
+use Rattle.tick.proofs.Still.{linear-none}
+use Rattle.passage.proofs.Loops.{within, runOf, begins, ended, joined}
 use Rattle.counter.specs.declared.advance.Work.{Work}
 use Rattle.counter.specs.declared.state.Timer.{Timer}
 use Rattle.counter.specs.Modes.{prescalerOf, runningOf, modeOf, waveOf}
 use Rattle.counter.specs.Setting.{settingAt, settingOf, movingOf, settle}
-use Rattle.counter.specs.Passage.{due, start, syncTo, syncOf, passed, advanced, Works, Advances}
+use Rattle.counter.specs.Passage.{due, start, syncTo, syncOf, passed, advanced, quietly, workOf, Works, Advances}
 use Rattle.counter.specs.Logs.{Logs, struck}
 use Rattle.counter.specs.Valid.{Valid}
 use Rattle.counter.proofs.Bounds.{valid-sound}
 use Rattle.counter.proofs.Clocks.{running-divides}
 use Rattle.counter.proofs.Lasting.{advance-keeps}
+
+-- what a paused run hands back
+pub paused-work : (f : Finished) (p : Prescaler) (sync cycle : ℕ) {last later : ℕ} → f .paused ≡ true → last ≡ cycleAt p (f .at .0) → later ≡ max sync last
+    → record { moving = f .moving; sync = record { 0 = later }; written = f .to; paused = true } ≡ workOf f p sync cycle
+paused-work f p sync cycle e a b = rw (e, b, a)
 
 -- what the code hands back of the run that is due
 works : (t : Timer) (cycle : ℕ) (before after : List ℕ) (m : Moving) (at sync to : ℕ) (paused : Bool)
@@ -51,10 +56,9 @@ works t cycle before after m at sync to paused e y l d =
     }
 
 -- the counter stands
-pub idle : (t : Timer) (cycle : ℕ) (before : List ℕ) {m : Moving} → runningOf t ≡ false → m ≡ movingOf t
-    → Works t (advanced ticks t cycle (length before)) before (record { moving = m; sync = record { 0 = cycle }; written = 0; paused = false }) before
+pub idle : (t : Timer) (cycle : ℕ) (before : List ℕ) {m : Moving} {r : Work} → runningOf t ≡ false → m ≡ movingOf t → r ≡ quietly m cycle → Works t (advanced ticks t cycle (length before)) before r before
 unfolding due start ticks
-idle t cycle before {m} e em = works t cycle before before m (ticksAt (prescalerOf t) (t .clock .sync .0)) cycle 0 false (rw (e, em)) refl (omega arith) refl
+idle t cycle before {m} e em er = rw er (works t cycle before before m (ticksAt (prescalerOf t) (t .clock .sync .0)) cycle 0 false (rw (e, em)) refl (omega arith) refl)
 
 -- what the calls before the run ask
 pub ticks-asked : (t : Timer) {p : Prescaler} (cycle : ℕ) → Valid t → t .clock .sync .0 ≤ cycle → p ≡ prescalerOf t → runningOf t ≡ true → (p .origin .0 ≤ cycle) × (0 < p .divisor)
@@ -128,28 +132,26 @@ module _ {t : Timer} {cycle : ℕ} {p : Prescaler} {w : Wave} {m : Moving} {g a 
   begun-run s before es = rw (x .runs, es, x .moving, x .first, x .last, x .prescaler)
 
   -- no event at or before the cycle
-  pub begun-quiet : (before : List ℕ) {near : Moving} → e - a ≤ g → near ≡ linear w (e - a) m
-      → Works t (advanced ticks t cycle (length before)) before (record { moving = near; sync = record { 0 = cycle }; written = 0; paused = false }) before
+  pub begun-quiet : (before : List ℕ) {near : Moving} {r : Work} → e - a ≤ g → near ≡ linear w (e - a) m → r ≡ quietly near cycle → Works t (advanced ticks t cycle (length before)) before r before
   unfolding settingAt
-  begun-quiet before {near} h en =
+  begun-quiet before {near} h en er =
       let f : Finishes (settingOf t) p (begunAt m g a) e before (record { moving = near; at = record { 0 = e }; to = 0; paused = false }) before
       = ended (begins before (begun-ready before refl)) a refl h (rw (← x .wave) en) in
-      works t cycle before before near e cycle 0 false (begun-run (settingOf t) before refl ∙ f .run) refl (omega arith) refl
+      rw er (works t cycle before before near e cycle 0 false (begun-run (settingOf t) before refl ∙ f .run) refl (omega arith) refl)
 
   -- run, then finish
-  pub begun-works : {s : Setting} {before area after : List ℕ} {b : Progress} {f : Finished} (sync : ℕ) (paused : Bool)
+  pub begun-works : {s : Setting} {before area after : List ℕ} {b : Progress} {f : Finished} {r : Work}
       → s ≡ settingOf t
       → Ran s p (begunAt m g a) e before b area
       → length area ≡ length before
       → length after ≡ length area
       → Finishes s p b e area f after
-      → f .paused ≡ paused
-      → sync ≡ cond paused (max (t .clock .sync .0) (cycleAt p (f .at .0))) cycle
-      → Works t (advanced ticks t cycle (length before)) before (record { moving = f .moving; sync = record { 0 = sync }; written = f .to; paused = paused }) after
-  begun-works {s} {before} {area} {after} {b} {f} sync paused es h l n k u y =
+      → r ≡ workOf f p (t .clock .sync .0) cycle
+      → Works t (advanced ticks t cycle (length before)) before r after
+  begun-works {s} {before} {area} {after} {b} {f} es h l n k er =
       let j = joined h l (n ∙ l) k in
       let o = j .room in
-      works t cycle before after (f .moving) (f .at .0) sync (f .to) paused (begun-run s before es ∙ rw u at (j .run)) (rw (x .prescaler) at y) (omega arith) (j .left)
+      rw er (works t cycle before after (f .moving) (f .at .0) (workOf f p (t .clock .sync .0) cycle .sync .0) (f .to) (f .paused) (begun-run s before es ∙ j .run) (rw (x .prescaler)) (omega arith) (j .left))
 
 -- ---- advance
 pub advances : (t : Timer) (cycle : ℕ) {before after : List ℕ} {w : Work} {t₁ t₂ : Timer}

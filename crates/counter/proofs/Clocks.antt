@@ -5,10 +5,10 @@ use native.Mathlib.Nat.{add-zero, add-mul, mul-le-mul, div-lt-iff-lt-mul}
 use mathlib.Core.Path.{_≡_}
 use mathlib.Core.Bool.{true}
 use borrow.Author.Tests.{ltb-true}
-use Rattle.wave.specs.declared.units.Prescaler.{Prescaler}
-use Rattle.wave.specs.Units.{ticksAt, cycleAt}
+use Rattle.time.specs.declared.units.Prescaler.{Prescaler}
+use Rattle.time.specs.Units.{ticksAt, cycleAt}
 use Rattle.wave.specs.Distance.{gap}
-use Rattle.wave.proofs.Clocks.{ticks-mono, tick-before}
+use Rattle.time.proofs.Clocks.{ticks-mono, tick-before}
 use Rattle.tick.proofs.Choices.{and-left, cond-case}
 use Rattle.tick.proofs.Bounds.{gap-max}
 use Rattle.counter.specs.declared.state.Timer.{Timer}

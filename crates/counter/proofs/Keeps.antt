@@ -11,10 +11,11 @@ use Rattle.config.specs.declared.Config.{Config}
 use Rattle.config.specs.Config.{accepted}
 use Rattle.tick.specs.declared.setting.Drives.{Drives}
 use Rattle.tick.proofs.Choices.{cond-all}
-use Rattle.tick.proofs.Law.{tick-keeps}
-use Rattle.counter.specs.declared.state.Clock.{Clock}
+use Rattle.tick.proofs.Still.{tick-keeps}
+use Rattle.time.specs.declared.clock.Clock.{Clock}
+use Rattle.time.specs.Clock.{clockAt}
 use Rattle.counter.specs.declared.state.Flags.{Flags}
-use Rattle.counter.specs.declared.state.Halts.{Halts}
+use Rattle.time.specs.declared.halts.Halts.{Halts}
 use Rattle.counter.specs.declared.state.Timer.{Timer}
 use Rattle.counter.specs.Modes.{maxAt, modeOf, waveOf}
 use Rattle.counter.specs.Setting.{settingOf, settingAt, movingOf}
@@ -22,9 +23,10 @@ use Rattle.counter.specs.Passage.{syncTo}
 use Rattle.counter.specs.Valid.{Valid}
 use Rattle.counter.specs.Logs.{Noted, struck}
 use Rattle.counter.specs.Registers.{tempTo, icrTo, countTo, compareTo, immediate, readTimer, committed, commit, stored, configured, driven, writtenA, writtenB, written}
-use Rattle.counter.specs.Capture.{flagsTo, captured}
-use Rattle.counter.specs.Fresh.{blank, clockAt, freshOf, FreshIsValid}
-use Rattle.counter.specs.Halts.{haltsTo, clockTo, latestTo, asleepAt, awakeAt, reducedTo, prescaledAt, tsmTo, routedTo, resetAt}
+use Rattle.counter.specs.Parts.{flagsTo, haltsTo, clockTo}
+use Rattle.counter.specs.Capture.{captured}
+use Rattle.counter.specs.Fresh.{blank, freshOf, FreshIsValid}
+use Rattle.counter.specs.Halts.{latestTo, asleepAt, awakeAt, reducedTo, prescaledAt, tsmTo, routedTo, resetAt}
 use Rattle.counter.proofs.Bounds.{valid-sound}
 
 -- a valid timer with another clock, and with other halts

@@ -4,16 +4,16 @@ use native.Mathlib.Omega.{arith}
 use mathlib.Core.Path.{_≡_}
 use mathlib.Core.Bool.{Bool, true}
 use lib.Dec.{leb, leb·zero}
-use Rattle.wave.specs.declared.units.Prescaler.{Prescaler}
-use Rattle.wave.specs.Units.{ticksAt}
-use Rattle.wave.proofs.Clocks.{cycle-mono}
+use Rattle.time.specs.declared.units.Prescaler.{Prescaler}
+use Rattle.time.specs.Units.{ticksAt}
+use Rattle.time.proofs.Clocks.{cycle-mono}
 use Rattle.tick.specs.declared.setting.Moving.{Moving}
 use Rattle.tick.specs.declared.setting.Setting.{Setting}
-use Rattle.tick.specs.Passage.{Run, one, ticks}
+use Rattle.passage.specs.Passage.{Run, one, ticks}
 use Rattle.tick.specs.Sound.{Sound}
-use Rattle.tick.specs.Law.{Kept}
+use Rattle.passage.specs.Law.{Kept}
 use Rattle.tick.proofs.Choices.{cond-all}
-use Rattle.tick.proofs.Runs.{one-all, one-keeps}
+use Rattle.passage.proofs.Runs.{one-all, one-keeps}
 use Rattle.counter.specs.declared.state.Timer.{Timer}
 use Rattle.counter.specs.Modes.{prescalerOf, waveOf}
 use Rattle.counter.specs.Setting.{settingOf, settingAt, settle}

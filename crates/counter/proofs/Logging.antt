@@ -21,8 +21,9 @@ use Rattle.tick.proofs.Ticks.{Flagged}
 use Rattle.counter.specs.declared.state.Timer.{Timer}
 use Rattle.counter.specs.Setting.{settingOf, movingOf}
 use Rattle.counter.specs.Logs.{Logs, silent}
-use Rattle.counter.specs.Registers.{outsTo, icrTo, forcedBy, drivenBy, driven}
-use Rattle.counter.specs.Capture.{capture, flagsTo, captured}
+use Rattle.counter.specs.Parts.{outsTo, flagsTo}
+use Rattle.counter.specs.Registers.{icrTo, forcedBy, drivenBy, driven}
+use Rattle.counter.specs.Capture.{capture, captured}
 
 -- no record
 pub logs-none : {t r : Timer} {log : Log} (cycle : ℕ) → r ≡ t → log .len ≡ 0 → Logs (silent t) cycle (record { timer = r; log = log })

@@ -3,8 +3,8 @@ use Prim.Native.Nat.{ℕ, _-_}
 use mathlib.Core.Path.{_≡_, refl, ap}
 use mathlib.Core.Bool.{Bool, true}
 use lib.Dec.{leb, leb·zero}
-use Rattle.tick.specs.Law.{Kept}
-use Rattle.tick.proofs.Runs.{quiet-ticks, events-are-ticks}
+use Rattle.passage.specs.Law.{Kept}
+use Rattle.passage.proofs.Runs.{quiet-ticks, events-are-ticks}
 use Rattle.counter.specs.declared.state.Timer.{Timer}
 use Rattle.counter.specs.Setting.{settingOf, settingAt}
 use Rattle.counter.specs.Passage.{start, passed, synced, advanced}

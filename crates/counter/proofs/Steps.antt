@@ -5,10 +5,10 @@ use native.Mathlib.Nat.{div-le-self}
 use mathlib.Core.Path.{_≡_}
 use mathlib.Core.Bool.{true}
 use Rattle.wave.specs.declared.kinds.Wave.{Wave}
-use Rattle.wave.specs.declared.units.Cycle.{Cycle}
-use Rattle.wave.specs.declared.units.Prescaler.{Prescaler}
-use Rattle.wave.specs.declared.units.Ticks.{Ticks}
-use Rattle.wave.specs.Units.{ticksAt, cycleAt}
+use Rattle.time.specs.declared.units.Cycle.{Cycle}
+use Rattle.time.specs.declared.units.Prescaler.{Prescaler}
+use Rattle.time.specs.declared.units.Ticks.{Ticks}
+use Rattle.time.specs.Units.{ticksAt, cycleAt}
 use Rattle.wave.specs.Distance.{gap}
 use Rattle.tick.proofs.Bounds.{gap-max}
 use Rattle.counter.specs.declared.next.Next.the-variants.{At}

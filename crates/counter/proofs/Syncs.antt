@@ -5,14 +5,14 @@ use mathlib.Core.Path.{_≡_, refl, sym, ap, _∙_}
 use mathlib.Core.Bool.{true, false}
 use mathlib.Core.List.{[]}
 use Rattle.wave.specs.declared.kinds.Wave.{Wave}
-use Rattle.wave.specs.declared.units.Prescaler.{Prescaler}
+use Rattle.time.specs.declared.units.Prescaler.{Prescaler}
 use Rattle.wave.specs.Distance.{gap}
 use Rattle.tick.specs.declared.setting.Moving.{Moving}
 use Rattle.tick.specs.Skip.{linear}
-use Rattle.tick.specs.Passage.{ticks, quiet}
+use Rattle.passage.specs.Passage.{ticks, quiet}
 use Rattle.tick.proofs.Bounds.{gap-max}
-use Rattle.tick.proofs.Law.{linear-none}
-use Rattle.tick.proofs.Runs.{quiet-ticks}
+use Rattle.tick.proofs.Still.{linear-none}
+use Rattle.passage.proofs.Runs.{quiet-ticks}
 use Rattle.counter.specs.declared.state.Timer.{Timer}
 use Rattle.counter.specs.Modes.{modeOf, waveOf, runningOf}
 use Rattle.counter.specs.Setting.{settingAt, settingOf, movingOf, settle}

@@ -9,6 +9,7 @@ use Rattle.tick.specs.Tick.{raised, flagLog}
 use Rattle.counter.specs.declared.state.Timer.{Timer}
 use Rattle.counter.specs.Logs.{Noted}
 use Rattle.counter.specs.Modes.{modeOf, sourceAt, heldOf}
+use Rattle.counter.specs.Parts.{flagsTo}
 use Rattle.counter.specs.Registers.{icrTo}
 use Rattle.counter.specs.Setting.{settingOf}
 
@@ -19,10 +20,6 @@ captures t level = t .config .icr .present && not (eqb (sourceAt (t .config .wid
 -- a capture alone happens
 abbrev pub capture : Events
 capture = record { a = false; b = false; c = false; top = false; zero = false; overflow = false; capture = true; load = false; bottom = false; rises = false }
-
--- the timer with other flags
-abbrev pub flagsTo : Timer → ℕ → ℕ → Timer
-flagsTo t tifr timsk = record { config = t .config; counter = t .counter; ocr = t .ocr; buffer = t .buffer; oc = t .oc; drives = t .drives; registers = t .registers; flags = record { tifr = tifr; timsk = timsk }; clock = t .clock; halts = t .halts }
 
 -- it copies TCNT, then raises ICF
 unfoldable pub captured : Timer → Noted

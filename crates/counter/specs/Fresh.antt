@@ -8,7 +8,9 @@ use Rattle.config.specs.declared.Config.{Config}
 use Rattle.config.specs.Config.{accepted, least}
 use Rattle.tick.specs.declared.setting.Drives.{Drives}
 use Rattle.counter.specs.declared.fresh.Started.{Started}
-use Rattle.counter.specs.declared.state.Clock.{Clock}
+use Rattle.time.specs.declared.clock.Clock.{Clock}
+use Rattle.time.specs.Clock.{clockAt}
+use Rattle.time.specs.Halts.{unheld}
 use Rattle.counter.specs.declared.state.Flags.{Flags}
 use Rattle.counter.specs.declared.state.Timer.{Timer}
 use Rattle.counter.specs.Valid.{Valid}
@@ -25,12 +27,8 @@ blank c f d k = record {
   registers = record { tccra = 0; tccrb = 0; icr = 0; temp = 0 };
   flags = f;
   clock = k;
-  halts = record { asleep = false; since = record { 0 = 0 }; reduced = false; tsm = false; routed = false };
+  halts = unheld;
 }
-
--- a clock at a sync cycle, an origin and a latest accepted cycle
-abbrev pub clockAt : ℕ → ℕ → ℕ → Clock
-clockAt sync origin latest = record { sync = record { 0 = sync }; origin = record { 0 = origin }; latest = record { 0 = latest } }
 
 -- a fresh timer at cycle 0; the drive last recorded starts as enable 0, value 0
 unfoldable pub freshOf : Config → Timer

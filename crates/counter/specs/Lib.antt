@@ -1,5 +1,6 @@
 pub mod Modes
 pub mod Setting
+pub mod Parts
 pub mod Next
 pub mod Passage
 pub mod Valid

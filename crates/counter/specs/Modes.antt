@@ -5,7 +5,8 @@ use mathlib.Core.List.{List, [], _∷_}
 use lib.ListN.{getD}
 use lib.Dec.{eqb, ltb}
 use Rattle.wave.specs.declared.kinds.Wave.{Wave}
-use Rattle.wave.specs.declared.units.Prescaler.{Prescaler}
+use Rattle.time.specs.declared.units.Prescaler.{Prescaler}
+use Rattle.time.specs.Halts.{holding}
 use Rattle.wave.specs.Kinds.{N, C, F, P, Q, X, A, I}
 use Rattle.counter.specs.declared.state.Timer.{Timer}
 
@@ -87,7 +88,7 @@ prescalerOf t = record { origin = t .clock .origin; divisor = divisorOf t }
 
 -- sleep, power reduction or TSM hold the counter
 unfoldable pub heldOf : Timer → Bool
-heldOf t = t .halts .asleep || t .halts .reduced || t .halts .tsm
+heldOf t = holding (t .halts)
 
 -- it runs if a divisor is selected and nothing holds it
 unfoldable pub runningOf : Timer → Bool

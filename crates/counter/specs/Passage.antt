@@ -5,12 +5,17 @@ use mathlib.Core.Bool.{Bool, true, false, cond}
 use mathlib.Core.List.{List, [], _++_}
 use lib.ListN.{length, drop}
 use lib.Dec.{leb}
-use Rattle.wave.specs.Units.{ticksAt, cycleAt}
-use Rattle.tick.specs.Passage.{Run, Passage}
+use Rattle.time.specs.declared.units.Prescaler.{Prescaler}
+use Rattle.time.specs.Clock.{syncedAt}
+use Rattle.time.specs.Units.{ticksAt, cycleAt}
+use Rattle.tick.specs.declared.setting.Moving.{Moving}
+use Rattle.passage.specs.declared.Finished.{Finished}
+use Rattle.passage.specs.Passage.{Run, Passage}
 use Rattle.counter.specs.declared.advance.Work.{Work}
 use Rattle.counter.specs.declared.advance.Advanced.{Advanced}
 use Rattle.counter.specs.declared.state.Timer.{Timer}
 use Rattle.counter.specs.Modes.{prescalerOf, runningOf}
+use Rattle.counter.specs.Parts.{clockTo}
 use Rattle.counter.specs.Setting.{settingOf, movingOf, settle}
 use Rattle.counter.specs.Valid.{Valid}
 
@@ -24,18 +29,7 @@ start t = record { moving = movingOf t; at = ticksAt (prescalerOf t) (t .clock .
 
 -- the timer at another sync cycle; the latest never falls
 unfoldable pub syncTo : Timer → ℕ → Timer
-syncTo t cycle = record {
-  config = t .config;
-  counter = t .counter;
-  ocr = t .ocr;
-  buffer = t .buffer;
-  oc = t .oc;
-  drives = t .drives;
-  registers = t .registers;
-  flags = t .flags;
-  clock = record { sync = record { 0 = cycle }; origin = t .clock .origin; latest = record { 0 = max (t .clock .latest .0) cycle } };
-  halts = t .halts;
-}
+syncTo t cycle = clockTo t (syncedAt (t .clock) cycle)
 
 -- a run's sync cycle: the call's, or of a stopped run the later of the old one and its last tick
 unfoldable pub syncOf : Timer → ℕ → Run → ℕ
@@ -59,7 +53,15 @@ synced p t cycle = passed t cycle (p (settingOf t) (prescalerOf t) (λ k. true) 
 unfoldable pub advanced : Passage → Timer → ℕ → ℕ → Passed
 advanced p t cycle room = passed t cycle (p (settingOf t) (prescalerOf t) (λ k. leb k room) (due t cycle) (start t))
 
--- what an advance changes
+-- what an advance changes where nothing is written
+abbrev pub quietly : Moving → ℕ → Work
+quietly m cycle = record { moving = m; sync = record { 0 = cycle }; written = 0; paused = false }
+
+-- what it changes where a run ended
+abbrev pub workOf : Finished → Prescaler → ℕ → ℕ → Work
+workOf f p sync cycle = record { moving = f .moving; sync = record { 0 = cond (f .paused) (max sync (cycleAt p (f .at .0))) cycle }; written = f .to; paused = f .paused }
+
+-- the timer, the bytes and the area that it stands for
 pub record Works (t : Timer) (x : Passed) (before : List ℕ) (r : Work) (after : List ℕ) : Type 0 where
   pub timer : syncTo (settle t (r .moving)) (r .sync .0) ≡ x .timer
   pub written : r .written ≡ length (x .bytes)

@@ -1,7 +1,6 @@
 -- Registers: what an address holds, what reading it yields, what writing it does (01, "Registers and capture").
 use Prim.Native.Nat.{ℕ, _+_, _*_, _/_, _%_}
 use mathlib.Core.Bool.{Bool, true, false, cond, not, _&&_}
-use mathlib.Core.List.{List}
 use lib.ListN.{getD, set}
 use lib.Bits.{bitAnd}
 use lib.Dec.{eqb, leb}
@@ -10,25 +9,11 @@ use Rattle.config.specs.Config.{split, bare}
 use Rattle.wave.specs.Kinds.{C}
 use Rattle.tick.specs.declared.events.Events.{Events}
 use Rattle.tick.specs.Outputs.{Outs, outsOf, reapplied, strobed}
-use Rattle.counter.specs.declared.state.Registers.{Registers}
 use Rattle.counter.specs.declared.state.Timer.{Timer}
 use Rattle.counter.specs.Logs.{Noted, silent}
 use Rattle.counter.specs.Modes.{modeOf, kindAt}
+use Rattle.counter.specs.Parts.{registersTo, comparesTo, outsTo}
 use Rattle.counter.specs.Setting.{settingOf, movingOf}
-
--- ---- parts of the timer put back
-
--- the timer with other registers
-abbrev pub registersTo : Timer → Registers → Timer
-registersTo t r = record { config = t .config; counter = t .counter; ocr = t .ocr; buffer = t .buffer; oc = t .oc; drives = t .drives; registers = r; flags = t .flags; clock = t .clock; halts = t .halts }
-
--- the timer with other active and buffered compares
-abbrev pub comparesTo : Timer → List ℕ → List ℕ → Timer
-comparesTo t ocr buffer = record { config = t .config; counter = t .counter; ocr = ocr; buffer = buffer; oc = t .oc; drives = t .drives; registers = t .registers; flags = t .flags; clock = t .clock; halts = t .halts }
-
--- the timer with other levels and drives
-abbrev pub outsTo : Timer → Outs → Timer
-outsTo t o = record { config = t .config; counter = t .counter; ocr = t .ocr; buffer = t .buffer; oc = o .oc; drives = o .drives; registers = t .registers; flags = t .flags; clock = t .clock; halts = t .halts }
 
 -- TEMP takes a byte
 abbrev pub tempTo : Timer → ℕ → Timer

@@ -1,21 +1,22 @@
 // Time passes: by events up to a cycle, or to the first tick whose records do not fit.
 
-use crate::state::Clock;
 use crate::state::Timer;
+use passage::Finished;
+use passage::Progress;
 use records::Log;
-use tick::run::Progress;
 use tick::setting::Moving;
-use wave::units::Cycle;
-use wave::units::Prescaler;
-use wave::units::Ticks;
-ghost use Prim.Native.Nat.{_<_, _≤_, _^_, max};
+use time::units::Cycle;
+use time::units::Prescaler;
+use time::units::Ticks;
+ghost use Prim.Native.Nat.{_<_, _≤_, _^_};
 ghost use mathlib.Core.Path.{_≡_};
 ghost use mathlib.Core.List.{[]};
 ghost use lib.ListN.{length};
+ghost use Rattle.time.specs.Units.{cycleAt};
 ghost use Rattle.wave.specs.Distance.{gap};
-ghost use Rattle.tick.specs.Passage.{ticks};
+ghost use Rattle.passage.specs.Passage.{ticks};
 ghost use Rattle.counter.specs.Modes.{modeOf, waveOf};
-ghost use Rattle.counter.specs.Passage.{synced, due, advanced, syncTo, Works, Advances};
+ghost use Rattle.counter.specs.Passage.{synced, due, advanced, syncTo, quietly, workOf, Works, Advances};
 ghost use Rattle.counter.specs.Logs.{Logs, struck};
 ghost use Rattle.counter.specs.Valid.{Valid};
 
@@ -25,6 +26,44 @@ pub struct Work {
     pub sync: Cycle,
     pub written: usize,
     pub paused: bool,
+}
+
+impl Work {
+    // Nothing is written: what moved, up to a cycle.
+    pub fn quiet(moving: Moving, cycle: Cycle) -> Work
+        ensures { λ r. ⌜ r ≡ quietly moving (cycle .0) ⌝ }
+    {
+        Work {
+            moving,
+            sync: cycle,
+            written: 0,
+            paused: false,
+        }
+    }
+
+    // A run's end: at the cycle, or paused at its last tick or the old sync cycle, whichever is later.
+    pub fn of(f: Finished, p: Prescaler, sync: Cycle, cycle: Cycle) -> Work
+        requires { ⌜ cycleAt p (f .at .0) < 2 ^ 64 ⌝ }
+        ensures { λ r. ⌜ r ≡ workOf f p (sync .0) (cycle .0) ⌝ }
+    {
+        let moving = f.moving;
+        if f.paused {
+            let last = p.cycle(f.at);
+            Work {
+                moving,
+                sync: sync.later(last),
+                written: f.to,
+                paused: true,
+            }
+        } else {
+            Work {
+                moving,
+                sync: cycle,
+                written: f.to,
+                paused: false,
+            }
+        }
+    }
 }
 
 // The timer after an advance, the bytes written, and whether it stopped before the cycle.
@@ -40,28 +79,14 @@ pub struct Logged {
     pub log: Log,
 }
 
-pub fn later(a: u64, b: u64) -> u64
-    ensures { λ r. ⌜ r ≡ max a b ⌝ }
-{
-    if a <= b { b } else { a }
-}
-
 impl Timer {
     // The timer at another sync cycle; the latest never falls.
     pub fn synced(self, cycle: Cycle) -> Timer
         ensures { λ r. ⌜ r ≡ syncTo self (cycle .0) ⌝ }
     {
-        let was = self.clock;
-        let latest = was.latest;
-        let origin = was.origin;
-        let last = Cycle(later(latest.0, cycle.0));
-        let clock = Clock {
-            sync: cycle,
-            origin,
-            latest: last,
-        };
+        let clock = self.clock;
         let mut t = self;
-        t.clock = clock;
+        t.clock = clock.synced(cycle);
         t
     }
 
@@ -84,7 +109,7 @@ impl Timer {
             origin: cycle,
             divisor: 0,
         };
-        let a = s.aside(start, p);
+        let a = start.aside(s, p);
         let after = a.after;
         let log = a.log;
         let moved = after.moving;
@@ -113,12 +138,7 @@ impl Timer {
             let gap = wave.gap(counter, ocr);
             let n = end.0 - first.0;
             if n <= (gap as u64) {
-                return Work {
-                    moving: moving.skip(wave, n as u32),
-                    sync: cycle,
-                    written: 0,
-                    paused: false,
-                };
+                return Work::quiet(moving.skip(wave, n as u32), cycle);
             }
             let s = self.setting(mode, wave);
             let start = Progress {
@@ -127,32 +147,10 @@ impl Timer {
                 at: first,
                 to: 0,
             };
-            let near = s.run(start, end, p, area);
-            let f = s.finish(near, end, p, area);
-            let m = f.moving;
-            if f.paused {
-                let last = p.cycle(f.at);
-                Work {
-                    moving: m,
-                    sync: Cycle(later(sync.0, last.0)),
-                    written: f.to,
-                    paused: true,
-                }
-            } else {
-                Work {
-                    moving: m,
-                    sync: cycle,
-                    written: f.to,
-                    paused: false,
-                }
-            }
+            let near = start.run(s, end, p, area);
+            Work::of(near.finish(s, end, p, area), p, sync, cycle)
         } else {
-            Work {
-                moving,
-                sync: cycle,
-                written: 0,
-                paused: false,
-            }
+            Work::quiet(moving, cycle)
         }
     }
 

@@ -5,7 +5,7 @@ use crate::state::Timer;
 ghost use Prim.Native.Nat.{_-_};
 ghost use mathlib.Core.Path.{_≡_};
 ghost use lib.Bits.{bitAnd};
-ghost use Rattle.counter.specs.Capture.{flagsTo};
+ghost use Rattle.counter.specs.Parts.{flagsTo};
 
 impl Timer {
     // Writing one to a TIFR bit clears it.

@@ -1,14 +1,14 @@
 // A fresh timer of an accepted configuration.
 
-use crate::state::Clock;
 use crate::state::Flags;
-use crate::state::Halts;
 use crate::state::Registers;
 use crate::state::Timer;
 use config::Config;
 use tick::setting::Drives;
+use time::clock::Clock;
+use time::halts::Halts;
+use time::units::Cycle;
 use wave::count::Counter;
-use wave::units::Cycle;
 ghost use mathlib.Core.Path.{_≡_};
 ghost use Rattle.counter.specs.Fresh.{freshOf, startedOf};
 ghost use Rattle.counter.specs.Valid.{Valid};
@@ -46,13 +46,6 @@ impl Timer {
             origin: start,
             latest: start,
         };
-        let halts = Halts {
-            asleep: false,
-            since: start,
-            reduced: false,
-            tsm: false,
-            routed: false,
-        };
         Timer {
             config,
             counter,
@@ -63,7 +56,7 @@ impl Timer {
             registers,
             flags,
             clock,
-            halts,
+            halts: Halts::none(),
         }
     }
 

@@ -1,13 +1,14 @@
 // Sleep and wake, power reduction, TSM, prescaler reset, reset.
 
 use crate::advance::Logged;
-use crate::state::Clock;
-use crate::state::Halts;
 use crate::state::Timer;
-use wave::units::Cycle;
+use time::clock::Clock;
+use time::halts::Halts;
+use time::units::Cycle;
 ghost use Prim.Native.Nat.{_+_, _-_, _<_, _≤_, _^_};
 ghost use mathlib.Core.Path.{_≡_};
-ghost use Rattle.counter.specs.Halts.{haltsTo, clockTo, latestTo, halting, asleepAt, awakeAt, reducedTo, prescaledAt, tsmTo, routedTo, resetAt};
+ghost use Rattle.counter.specs.Parts.{haltsTo, clockTo};
+ghost use Rattle.counter.specs.Halts.{latestTo, halting, asleepAt, awakeAt, reducedTo, prescaledAt, tsmTo, routedTo, resetAt};
 ghost use Rattle.counter.specs.Logs.{Logs};
 
 impl Timer {
@@ -35,9 +36,8 @@ impl Timer {
     pub fn accepted(self, cycle: Cycle) -> Timer
         ensures { λ r. ⌜ r ≡ latestTo self (cycle .0) ⌝ }
     {
-        let mut clock = self.clock;
-        clock.latest = cycle;
-        self.with_clock(clock)
+        let clock = self.clock;
+        self.with_clock(clock.accepted(cycle))
     }
 
     // Does a sleep mode halt the counter: not idle, nor a mode that it runs in.
@@ -54,10 +54,8 @@ impl Timer {
     pub fn asleep(self, cycle: Cycle) -> Timer
         ensures { λ r. ⌜ r ≡ asleepAt self (cycle .0) ⌝ }
     {
-        let mut halts = self.halts;
-        halts.asleep = true;
-        halts.since = cycle;
-        self.with_halts(halts)
+        let halts = self.halts;
+        self.with_halts(halts.sleep(cycle))
     }
 
     // Awake: the origin moves by the cycles that the sleep halted, and no tick is due up to the cycle.
@@ -65,52 +63,45 @@ impl Timer {
         requires { ⌜ (self .halts .since .0 ≤ cycle .0) × (self .clock .origin .0 + (cycle .0 - self .halts .since .0) < 2 ^ 64) ⌝ }
         ensures { λ r. ⌜ r ≡ awakeAt self (cycle .0) ⌝ }
     {
-        let mut halts = self.halts;
+        let halts = self.halts;
         let since = halts.since;
-        halts.asleep = false;
-        let mut clock = self.clock;
-        let origin = clock.origin;
-        let later = Cycle(origin.0 + (cycle.0 - since.0));
-        clock.origin = later;
-        clock.sync = cycle;
-        self.with_halts(halts).with_clock(clock)
+        let clock = self.clock;
+        self.with_halts(halts.wake())
+            .with_clock(clock.woken(since, cycle))
     }
 
     // Power reduction on or off.
     pub fn reduced(self, on: bool) -> Timer
         ensures { λ r. ⌜ r ≡ reducedTo self on ⌝ }
     {
-        let mut halts = self.halts;
-        halts.reduced = on;
-        self.with_halts(halts)
+        let halts = self.halts;
+        self.with_halts(halts.reduce(on))
     }
 
     // The prescaler starts anew at a cycle.
     pub fn prescaled(self, cycle: Cycle) -> Timer
         ensures { λ r. ⌜ r ≡ prescaledAt self (cycle .0) ⌝ }
     {
-        let mut clock = self.clock;
-        clock.origin = cycle;
-        self.with_clock(clock)
+        let clock = self.clock;
+        self.with_clock(clock.restarted(cycle))
     }
 
     // TSM set, or released, which starts the prescaler anew.
     pub fn with_tsm(self, on: bool, cycle: Cycle) -> Timer
         ensures { λ r. ⌜ r ≡ tsmTo self on (cycle .0) ⌝ }
     {
-        let mut halts = self.halts;
-        halts.tsm = on;
-        let t = self.with_halts(halts);
-        if on { t } else { t.prescaled(cycle) }
+        let halts = self.halts;
+        let clock = self.clock;
+        self.with_halts(halts.with_tsm(on))
+            .with_clock(clock.released(on, cycle))
     }
 
     // The comparator's output feeds the capture, or does not.
     pub fn routed(self, on: bool) -> Timer
         ensures { λ r. ⌜ r ≡ routedTo self on ⌝ }
     {
-        let mut halts = self.halts;
-        halts.routed = on;
-        self.with_halts(halts)
+        let halts = self.halts;
+        self.with_halts(halts.route(on))
     }
 
     // A fresh timer at a cycle, but for the flags, the drives last recorded and the latest cycle; its outputs go off.

@@ -2,6 +2,7 @@
 
 use crate::state::Timer;
 use config::SYNC;
+use time::units::Prescaler;
 use wave::kinds::CTC;
 use wave::kinds::FAST;
 use wave::kinds::FIXED;
@@ -11,7 +12,6 @@ use wave::kinds::OCRA;
 use wave::kinds::PC;
 use wave::kinds::PFC;
 use wave::kinds::Wave;
-use wave::units::Prescaler;
 ghost use Prim.Native.Nat.{_<_};
 ghost use mathlib.Core.Path.{_≡_};
 ghost use mathlib.Core.Bool.{cond};
@@ -213,7 +213,7 @@ impl Timer {
         ensures { λ r. ⌜ r ≡ heldOf self ⌝ }
     {
         let halts = self.halts;
-        halts.asleep | halts.reduced | halts.tsm
+        halts.hold()
     }
 
     // Does the counter run on a divisor of the CPU clock.

@@ -1,8 +1,8 @@
 // The next event.
 
 use crate::state::Timer;
-use wave::units::Cycle;
-use wave::units::Ticks;
+use time::units::Cycle;
+use time::units::Ticks;
 ghost use mathlib.Core.Path.{_≡_};
 ghost use Rattle.counter.specs.Next.{nextOf};
 ghost use Rattle.counter.specs.Valid.{Valid};

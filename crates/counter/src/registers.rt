@@ -9,12 +9,13 @@ use config::SPLIT;
 use records::Log;
 use tick::events::Events;
 use tick::outputs::Outputs;
+use time::units::Cycle;
 use wave::kinds::CTC;
-use wave::units::Cycle;
 ghost use Prim.Native.Nat.{_<_};
 ghost use mathlib.Core.Path.{_≡_};
 ghost use Rattle.counter.specs.Logs.{Logs};
-ghost use Rattle.counter.specs.Registers.{registersTo, tempTo, icrTo, countTo, immediate, compareTo, wordOf, packed, controlOf, peeked, readValue, readTimer, committed, commit, configured, forcedBy, driven, storedA, strobes, writtenA, writtenB, written};
+ghost use Rattle.counter.specs.Parts.{registersTo};
+ghost use Rattle.counter.specs.Registers.{tempTo, icrTo, countTo, immediate, compareTo, wordOf, packed, controlOf, peeked, readValue, readTimer, committed, commit, configured, forcedBy, driven, storedA, strobes, writtenA, writtenB, written};
 ghost use Rattle.counter.specs.Valid.{Valid};
 
 // A byte read, and the timer with what reading it does to TEMP.

@@ -2,8 +2,9 @@
 
 use config::Config;
 use tick::setting::Drives;
+use time::clock::Clock;
+use time::halts::Halts;
 use wave::count::Counter;
-use wave::units::Cycle;
 
 #[repr(C)]
 pub struct Registers {
@@ -17,24 +18,6 @@ pub struct Registers {
 pub struct Flags {
     pub tifr: u8,
     pub timsk: u8,
-}
-
-// The cycle up to which the state is worked, the prescaler's origin, and the latest accepted cycle.
-#[repr(C)]
-pub struct Clock {
-    pub sync: Cycle,
-    pub origin: Cycle,
-    pub latest: Cycle,
-}
-
-// What holds the counter (asleep, and since when; power reduction; TSM), and whether the comparator feeds the capture.
-#[repr(C)]
-pub struct Halts {
-    pub asleep: bool,
-    pub since: Cycle,
-    pub reduced: bool,
-    pub tsm: bool,
-    pub routed: bool,
 }
 
 // ocr has the active compares of the channels A, B and C, buffer the buffered ones, oc the output levels.

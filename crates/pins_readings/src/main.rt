@@ -5,6 +5,7 @@ use pins::Contention;
 use pins::Drive;
 use pins::Pin;
 use pins::Resolved;
+use words::volts::pattern;
 
 fn put(text: &[u8]) {
     io::write_all(STDOUT_FILENO, text);
@@ -13,15 +14,6 @@ fn put(text: &[u8]) {
 fn put_number(text: &[u8], n: u8) {
     put(text);
     io::print_decimal(STDOUT_FILENO, n as u64);
-}
-
-// The bit pattern of an f64, in which minus zero and the last place show.
-fn pattern(v: f64) -> u64 {
-    if v == v {
-        f64::to_bits(v)
-    } else {
-        0x7ff8_0000_0000_0000
-    }
 }
 
 fn put_bool(text: &[u8], b: bool) {

@@ -6,15 +6,15 @@ use mathlib.Core.Bool.{true, false}
 use mathlib.Core.List.{List, [], _∷_, _++_}
 use lib.ListN.{length, getD}
 use borrow.Author.Tests.{lt-ltb, le-ltb}
-use Rattle.scheduler.specs.declared.events.EventKey.{EventKey}
-use Rattle.scheduler.specs.declared.events.Event.{Event}
-use Rattle.scheduler.specs.declared.events.Events.{Events}
-use Rattle.scheduler.specs.declared.events.Earliest.{Earliest}
+use Rattle.events.specs.declared.EventKey.{EventKey}
+use Rattle.events.specs.declared.Event.{Event}
+use Rattle.events.specs.declared.Events.{Events}
+use Rattle.events.specs.declared.Earliest.{Earliest}
 use Rattle.scheduler.specs.declared.Scheduler.{Scheduler}
-use Rattle.scheduler.specs.Events.{blank, placeOf, earliest, foremost, swapRemoved, listed, listIn, Packed}
+use Rattle.events.specs.Events.{blank, placeOf, earliest, foremost, swapRemoved, listed, listIn, Packed}
 use Rattle.scheduler.specs.Scheduler.{holding, held, holds, Valid}
-use Rattle.scheduler.proofs.Lists.{earliest-more, earliest-swap, foremost-within}
-use Rattle.scheduler.proofs.Places.{count-is}
+use Rattle.events.proofs.Lists.{earliest-more, earliest-swap, foremost-within}
+use Rattle.events.proofs.Places.{count-is}
 
 -- the place of the foremost of some events
 pub foremost-held : {v : Events} {found : Earliest} → Packed v → (v .count ≡ 0 → ⊥) → found ≡ record { place = foremost (listIn v); cycle = earliest (listIn v) }

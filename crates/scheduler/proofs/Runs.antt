@@ -11,14 +11,14 @@ use lib.Dec.{eqb, ltb, leb}
 use lib.ListN.{length, getD, set, length-set, length-append, List·getD-append}
 use lib.Seq.{getD-set-same, getD-set-other, getD-append-seam}
 use borrow.Author.Tests.{eqb-true, eqb-false, eq-eqb, ltb-true, ltb-false}
-use Rattle.scheduler.specs.declared.events.EventKey.{EventKey}
-use Rattle.scheduler.specs.declared.events.Event.{Event}
+use Rattle.events.specs.declared.EventKey.{EventKey}
+use Rattle.events.specs.declared.Event.{Event}
 use Rattle.scheduler.specs.declared.Scheduler.{Scheduler}
-use Rattle.scheduler.specs.Events.{blank, same, placeOf, earliest, foremost, swapRemoved}
+use Rattle.events.specs.Events.{blank, same, placeOf, earliest, foremost, swapRemoved}
 use Rattle.scheduler.specs.Scheduler.{holding, held, holds, refuses, put, scheduled, removed, popped, Valid}
 use Rattle.scheduler.specs.Runs.{Call, at, cancel, isScheduled, popDue, clear, next, after, run, Sound, Always}
-use Rattle.scheduler.proofs.Lists.{position-passes, position-within, earliest-low, earliest-met, foremost-within, from, length-swap, getD-swap, from-within}
-use Rattle.scheduler.proofs.Places.{kept}
+use Rattle.events.proofs.Lists.{position-passes, position-within, earliest-low, earliest-met, foremost-within, from, length-swap, getD-swap, from-within}
+use Rattle.events.proofs.Places.{kept}
 use Rattle.scheduler.proofs.Calls.{made}
 
 -- ---- keys

@@ -1,3 +1,2 @@
-pub mod Events
 pub mod Scheduler
 pub mod Runs

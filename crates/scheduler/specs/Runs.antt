@@ -3,10 +3,10 @@ use Prim.Native.Nat.{ℕ, _-_, _≤_, _<_, _^_}
 use mathlib.Core.Path.{_≡_}
 use mathlib.Core.List.{List, [], _∷_}
 use lib.ListN.{length, getD}
-use Rattle.scheduler.specs.declared.events.EventKey.{EventKey}
-use Rattle.scheduler.specs.declared.events.Event.{Event}
+use Rattle.events.specs.declared.EventKey.{EventKey}
+use Rattle.events.specs.declared.Event.{Event}
 use Rattle.scheduler.specs.declared.Scheduler.{Scheduler}
-use Rattle.scheduler.specs.Events.{blank}
+use Rattle.events.specs.Events.{blank, Met}
 use Rattle.scheduler.specs.Scheduler.{holding, held, Valid, scheduled, removed, popped}
 
 -- a call of each method
@@ -31,12 +31,6 @@ after s next = s
 unfoldable pub run : Scheduler → List Call → Scheduler
 run s [] = s
 run s (call ∷ calls) = run (after s call) calls
-
--- the place of an event of the list with the cycle
-pub record Met (l : List Event) (c : ℕ) : Type 0 where
-  pub place : ℕ
-  pub within : place < length l
-  pub cycle : getD l place blank .cycle ≡ c
 
 -- what is claimed of a scheduler
 pub record Sound (s : Scheduler) : Type 0 where

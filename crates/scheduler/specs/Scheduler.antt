@@ -6,8 +6,8 @@ use mathlib.Core.List.{List, [], _∷_, _++_}
 use mathlib.Core.Option.{Option, none, some}
 use lib.Dec.{ltb, leb, eqb}
 use lib.ListN.{length, getD, set}
-use Rattle.scheduler.specs.declared.events.EventKey.{EventKey}
-use Rattle.scheduler.specs.declared.events.Event.{Event}
+use Rattle.events.specs.declared.EventKey.{EventKey}
+use Rattle.events.specs.declared.Event.{Event}
 use Rattle.scheduler.specs.declared.Scheduler.{Scheduler}
 use Rattle.scheduler.specs.declared.Answer.{Answer}
 use Rattle.scheduler.specs.declared.Answer.the-variants.{Accepted, Refused}
@@ -15,7 +15,7 @@ use Rattle.scheduler.specs.declared.Scheduled.{Scheduled}
 use Rattle.scheduler.specs.declared.Scheduled.the-variants.{At, Never}
 use Rattle.scheduler.specs.declared.Due.{Due}
 use Rattle.scheduler.specs.declared.Due.the-variants.{Popped, Nothing}
-use Rattle.scheduler.specs.Events.{blank, placeOf, earliest, foremost, swapRemoved, listed, listIn, Packed}
+use Rattle.events.specs.Events.{blank, placeOf, earliest, foremost, swapRemoved, listed, listIn, Packed}
 
 -- the scheduler that holds a list
 abbrev pub holding : List Event → Scheduler

@@ -1,11 +1,10 @@
 // Cycle-stamped event scheduler: events at the exact CPU cycle where something observable happens, and the earliest of
 // their cycles. A scheduler goes in by value and comes back.
-mod events;
 
 ghost use Prim.Native.Nat.{min};
 ghost use mathlib.Core.Path.{_≡_};
 ghost use mathlib.Core.List.{[]};
-ghost use Rattle.scheduler.specs.Events.{listIn, earliest, Packed};
+ghost use Rattle.events.specs.Events.{listIn, earliest, Packed};
 ghost use Rattle.scheduler.specs.Scheduler.{holding, held, Valid, numberOf, cycleIn, eventIn, scheduled, removed, cycleOf, popped};
 pub use events::Event;
 pub use events::EventKey;

@@ -46,13 +46,13 @@ use denote.Triple.Clauses.{Clauses, closing, ensured, lasts}
 use denote.Triple.Walked.{says, needs, Stays, stay-ref, stay-none, gave-slice, walkOf, AllGo, goes-none, goes-ref, goes-gave-slice, Walks, ends-at, walked, walk-meets}
 use denote.Exit.{yes}
 use Rattle.counter.specs.declared.state.Timer.{Timer}
-use Rattle.wave.specs.declared.units.Cycle.{Cycle}
+use Rattle.time.specs.declared.units.Cycle.{Cycle}
 use Rattle.answers.specs.declared.Outcome.{Outcome}
 use Rattle.shell.specs.declared.lent.Told.{Told}
 use Rattle.counter.proofs.state.Timer as T
 use Rattle.counter.proofs.state.Timer.Laws as T′
-use Rattle.wave.proofs.units.Cycle as N
-use Rattle.wave.proofs.units.Cycle.Laws as N′
+use Rattle.time.proofs.units.Cycle as N
+use Rattle.time.proofs.units.Cycle.Laws as N′
 use Rattle.answers.proofs.Answer as A
 use Rattle.answers.proofs.Answer.Laws as A′
 use Rattle.answers.proofs.Outcome as D

@@ -6,7 +6,7 @@ use Rattle.counter.specs.declared.next.Next.{Next}
 use Rattle.counter.specs.declared.next.Next.the-variants as next
 use Rattle.counter.specs.declared.fresh.Started.{Started}
 use Rattle.counter.specs.declared.state.Timer.{Timer}
-use Rattle.tick.specs.Passage.{ticks}
+use Rattle.passage.specs.Passage.{ticks}
 use Rattle.counter.specs.Valid.{Valid}
 use Rattle.shell.specs.declared.asked.Asked.{Asked}
 use Rattle.shell.specs.declared.asked.Reply.{Reply}

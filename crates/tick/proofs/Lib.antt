@@ -1,9 +1,6 @@
 pub mod Choices
 pub mod Bounds
-pub mod Law
-pub mod Runs
+pub mod Still
 pub mod Writes
 pub mod Ticks
-pub mod Loops
 pub mod Sizes
-pub mod Progress

@@ -21,7 +21,7 @@ use Rattle.tick.specs.declared.setting.Moving.{Moving}
 use Rattle.tick.specs.declared.setting.Setting.{Setting}
 use Rattle.tick.specs.Outputs.{outputs, outsOf, Wrote}
 use Rattle.tick.specs.Tick.{eventsAt, eventsOf, raised, raises, flagEntry, triggerEntry, flagLogOf, flagLog, tickBy, tick, Worked}
-use Rattle.tick.proofs.Law.{next-turns}
+use Rattle.tick.proofs.Still.{next-turns}
 use Rattle.tick.proofs.Writes.{Put, put-none, put-one, put-then}
 
 -- what `also` promises

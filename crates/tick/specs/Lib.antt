@@ -3,5 +3,4 @@ pub mod Outputs
 pub mod Tick
 pub mod Skip
 pub mod Sound
-pub mod Passage
-pub mod Law
+pub mod Keeps

@@ -4,7 +4,7 @@ use crate::events::Events;
 use crate::outputs::bit;
 use crate::setting::Setting;
 use records::Entry;
-use wave::units::Cycle;
+use time::units::Cycle;
 ghost use Prim.Native.Nat.{_+_, _<_, _≤_};
 ghost use mathlib.Core.Path.{_≡_};
 ghost use mathlib.Core.Bool.{cond};

@@ -1,8 +1,7 @@
-// One tick with its records, and the run that skips from event to event.
+// One tick with its records.
 
 pub mod events;
 pub mod flags;
 pub mod outputs;
-pub mod run;
 pub mod setting;
 pub mod tick;

@@ -3,8 +3,8 @@
 use crate::flags::put_flags;
 use crate::setting::Moving;
 use crate::setting::Setting;
+use time::units::Cycle;
 use wave::count::Counter;
-use wave::units::Cycle;
 ghost use Prim.Native.Nat.{_+_, _≤_};
 ghost use mathlib.Core.Path.{_≡_};
 ghost use mathlib.Core.Bool.{cond};

@@ -9,7 +9,7 @@ use lib.ListN.{length}
 use borrow.Author.Tests.{ltb-false, eqb-true}
 use Rattle.counter.specs.declared.state.Timer.{Timer}
 use Rattle.counter.specs.Halts.{latestTo}
-use Rattle.tick.specs.Passage.{ticks}
+use Rattle.passage.specs.Passage.{ticks}
 use Rattle.counter.specs.Passage.{Passed, advanced}
 use Rattle.tick.proofs.Choices.{cond-case, cond-all}
 use Rattle.timer.specs.declared.calls.Call.{Call}

@@ -5,7 +5,7 @@ use mathlib.Core.Bool.{Bool, true, false}
 use mathlib.Core.List.{List, [], _∷_}
 use lib.ListN.{length}
 use Rattle.counter.specs.declared.state.Timer.{Timer}
-use Rattle.tick.specs.Passage.{ticks, events}
+use Rattle.passage.specs.Passage.{ticks, events}
 use Rattle.counter.specs.Valid.{Valid}
 use Rattle.counter.proofs.Runs.{syncs-alike, advances-alike}
 use Rattle.timer.specs.Calls.{asks, before, performed, answered}

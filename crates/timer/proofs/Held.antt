@@ -12,7 +12,7 @@ use Rattle.counter.specs.Capture.{captured, ticksOn}
 use Rattle.counter.specs.Halts.{halting, asleepAt, awakeAt, reducedTo, prescaledAt, tsmTo, routedTo}
 use Rattle.counter.specs.Logs.{Noted}
 use Rattle.counter.specs.Modes.{heldOf, runningOf}
-use Rattle.tick.specs.Passage.{ticks}
+use Rattle.passage.specs.Passage.{ticks}
 use Rattle.counter.specs.Passage.{due, start, synced, advanced, passed, syncTo}
 use Rattle.counter.specs.Registers.{compareTo, readTimer, commit, stored, configured, driven, writtenA, writtenB, written}
 use Rattle.counter.specs.Valid.{Valid}
@@ -80,7 +80,7 @@ works-stay t x (call.Route level) cycle g h e = cond-all (Stays _) (x .config .i
 works-stay t x (call.Sleep mode) cycle g h e = cond-all (Stays _) (halting x mode) refl refl
 works-stay t x call.Wake cycle g h e = cond-all (Stays _) (x .halts .asleep) refl refl
 works-stay t x (call.Reduce mask) cycle g h e = refl
-works-stay t x (call.Tsm level) cycle g h e = cond-all (Stays _) (changes x level) (cond-all (Stays _) (eqb level 1) refl refl) refl
+works-stay t x (call.Tsm level) cycle g h e = cond-all (Stays _) (changes x level) refl refl
 works-stay t x (call.Prescale mask) cycle g h e = cond-all (Stays _) (prescales x mask) refl refl
 works-stay t x call.Reset cycle g h e = absurd (true≢false e)
 

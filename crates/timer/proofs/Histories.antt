@@ -3,7 +3,7 @@ use mathlib.Core.Path.{_≡_, refl, sym, _∙_}
 use mathlib.Core.List.{List}
 use Prim.Native.Nat.{ℕ}
 use Rattle.counter.specs.declared.state.Timer.{Timer}
-use Rattle.tick.specs.Passage.{ticks}
+use Rattle.passage.specs.Passage.{ticks}
 use Rattle.answers.specs.declared.Outcome.{Outcome}
 use Rattle.answers.specs.Answers.{Told, Tells}
 use Rattle.timer.specs.Claims.{Request, heard, outcomes, last, History, nothing, called, CodeIsRun}

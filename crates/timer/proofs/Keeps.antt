@@ -7,7 +7,7 @@ use mathlib.Core.List.{List, [], _∷_}
 use Rattle.counter.specs.declared.state.Timer.{Timer}
 use Rattle.counter.specs.Halts.{halting}
 use Rattle.counter.specs.Logs.{Noted}
-use Rattle.tick.specs.Passage.{ticks}
+use Rattle.passage.specs.Passage.{ticks}
 use Rattle.counter.specs.Valid.{Valid}
 use Rattle.tick.proofs.Choices.{cond-case, cond-all}
 use Rattle.counter.proofs.Lasting.{advance-keeps}

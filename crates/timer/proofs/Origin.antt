@@ -9,7 +9,7 @@ use lib.ListN.{length}
 use borrow.Author.Tests.{eqb-false}
 use Rattle.counter.specs.declared.state.Timer.{Timer}
 use Rattle.counter.specs.Halts.{latestTo, awakeAt, prescaledAt, tsmTo, resetAt}
-use Rattle.tick.specs.Passage.{ticks}
+use Rattle.passage.specs.Passage.{ticks}
 use Rattle.counter.specs.Passage.{synced, passed, syncTo}
 use Rattle.counter.specs.Registers.{driven}
 use Rattle.tick.proofs.Choices.{cond-case, cond-all}

@@ -18,7 +18,7 @@ use Rattle.counter.specs.Next.{nextAt}
 use Rattle.counter.specs.Halts.{latestTo, halting, asleepAt, awakeAt, reducedTo, prescaledAt, tsmTo, routedTo}
 use Rattle.counter.specs.Logs.{Logs}
 use Rattle.counter.specs.Modes.{modeOf, waveOf}
-use Rattle.tick.specs.Passage.{ticks}
+use Rattle.passage.specs.Passage.{ticks}
 use Rattle.counter.specs.Passage.{due, synced, passed, syncTo, advanced, Advances}
 use Rattle.counter.specs.Registers.{written}
 use Rattle.counter.specs.Valid.{Valid}

@@ -10,15 +10,15 @@ use Rattle.counter.specs.declared.state.Timer.{Timer}
 use Rattle.wave.specs.Distance.{gap}
 use Rattle.counter.specs.Next.{nextAt}
 use Rattle.counter.specs.Modes.{modeOf, waveOf, prescalerOf, runningOf}
-use Rattle.tick.specs.Passage.{ticks}
+use Rattle.passage.specs.Passage.{ticks}
 use Rattle.counter.specs.Passage.{due, start, passed, advanced, syncTo, syncOf}
 use Rattle.counter.specs.Setting.{settingOf, settingAt}
-use Rattle.wave.specs.Units.{ticksAt, cycleAt}
+use Rattle.time.specs.Units.{ticksAt, cycleAt}
 use Rattle.counter.specs.Valid.{Valid}
 use Rattle.tick.proofs.Choices.{cond-all}
-use Rattle.wave.proofs.Clocks.{cycle-mono}
+use Rattle.time.proofs.Clocks.{cycle-mono}
 use Rattle.counter.proofs.Clocks.{running-divides}
-use Rattle.tick.proofs.Progress.{event-done}
+use Rattle.passage.proofs.Events.{event-done}
 use Rattle.counter.proofs.Runs.{start-kept}
 use Rattle.timer.specs.Calls.{asks, moved, performed, answered}
 use Rattle.timer.specs.Claims.{Progress}

@@ -2,7 +2,7 @@
 use mathlib.Core.Path.{_∙_}
 use Rattle.counter.specs.Setting.{settingAt}
 use Rattle.counter.proofs.Bounds.{valid-sound}
-use Rattle.tick.proofs.Law.{tick-still, still-at, linear-suc}
+use Rattle.tick.proofs.Still.{tick-still, still-at, linear-suc}
 use Rattle.timer.specs.Claims.{Quiet}
 use Rattle.counter.proofs.Keeps.{fresh-is-valid}
 use Rattle.timer.proofs.Keeps.{last-valid}

@@ -12,13 +12,13 @@ use Rattle.counter.specs.Halts.{halting, asleepAt, awakeAt, reducedTo, prescale
 use Rattle.counter.specs.Logs.{struck}
 use Rattle.counter.specs.Modes.{modeAt, kindAt, sourceAt, fixedAt, maxAt, togglesAt, divisorAt, modeOf, waveOf, divisorOf, heldOf, runningOf}
 use Rattle.tick.specs.Outputs.{pinEntry, recorded, onPin, acted, levelOf, matched, bottomed, matchesOf, bottomsOf, outputs}
-use Rattle.tick.specs.Passage.{one, ticks}
+use Rattle.passage.specs.Passage.{one, ticks}
 use Rattle.counter.specs.Passage.{due, start, syncTo, syncOf, passed, synced, advanced}
 use Rattle.tick.specs.Outputs.{reapplied, strobed}
 use Rattle.counter.specs.Registers.{immediate, compareTo, wordOf, packed, controlOf, peeked, readValue, readTimer, committed, commit, stored, configured, drivenBy, driven, storedA, storedB, strobes, writtenA, writtenB, written}
 use Rattle.tick.specs.Setting.{enabledAt, channelOf}
 use Rattle.counter.specs.Setting.{settingAt}
-use Rattle.wave.specs.Units.{ticksAt, cycleAt}
+use Rattle.time.specs.Units.{ticksAt, cycleAt}
 use Rattle.timer.specs.Calls.{edgeCaptures, edgeTicks, outputCaptures, asks, works, says, before, worked, moved, performed, refusalOf, answered}
 use Rattle.timer.specs.Readings.{played, replayed, Readings}
 use Rattle.answers.specs.Refusals.{isDue, late, refusal}

@@ -5,10 +5,10 @@ use mathlib.Core.Path.{_≡_, refl}
 use mathlib.Core.Bool.{Bool, true, false, false≢true}
 use Rattle.tick.specs.declared.setting.Setting.{Setting}
 use Rattle.counter.specs.declared.state.Timer.{Timer}
-use Rattle.wave.specs.declared.units.Prescaler.{Prescaler}
+use Rattle.time.specs.declared.units.Prescaler.{Prescaler}
 use Rattle.counter.specs.Modes.{prescalerOf}
 use Rattle.counter.specs.Setting.{settingOf}
-use Rattle.tick.specs.Passage.{Run, one, ticks}
+use Rattle.passage.specs.Passage.{Run, one, ticks}
 use Rattle.counter.specs.Passage.{due, start, synced, passed, syncTo, syncOf}
 use Rattle.counter.specs.Valid.{Valid}
 use Rattle.counter.proofs.Lasting.{due-keeps}

@@ -9,11 +9,12 @@ use Rattle.records.specs.Records.{recordsOf}
 use Rattle.config.specs.declared.Wire.{Wire}
 use Rattle.config.specs.Config.{placeOf}
 use Rattle.counter.specs.declared.state.Timer.{Timer}
-use Rattle.counter.specs.Capture.{captures, captured, ticksOn, flagsTo}
+use Rattle.counter.specs.Parts.{flagsTo}
+use Rattle.counter.specs.Capture.{captures, captured, ticksOn}
 use Rattle.counter.specs.Next.{nextOf}
 use Rattle.counter.specs.Halts.{latestTo, halting, asleepAt, awakeAt, reducedTo, prescaledAt, tsmTo, routedTo, resetAt}
 use Rattle.counter.specs.Logs.{Noted, silent, struck}
-use Rattle.tick.specs.Passage.{Passage}
+use Rattle.passage.specs.Passage.{Passage}
 use Rattle.counter.specs.Passage.{Passed, synced, advanced, syncTo}
 use Rattle.counter.specs.Registers.{isHigh, immediate, peeked, readValue, readTimer, written}
 use Rattle.timer.specs.declared.calls.Call.{Call}

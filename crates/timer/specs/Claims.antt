@@ -14,7 +14,7 @@ use Rattle.tick.specs.Skip.{linear}
 use Rattle.counter.specs.Next.{nextAt}
 use Rattle.counter.specs.Fresh.{freshOf}
 use Rattle.counter.specs.Modes.{modeOf, waveOf, runningOf}
-use Rattle.tick.specs.Passage.{Passage, ticks, events}
+use Rattle.passage.specs.Passage.{Passage, ticks, events}
 use Rattle.counter.specs.Setting.{settingOf, movingOf}
 use Rattle.counter.specs.Valid.{Valid}
 use Rattle.timer.specs.declared.calls.Call.{Call}

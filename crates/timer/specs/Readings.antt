@@ -11,7 +11,7 @@ use Rattle.config.specs.Config.{noCompare, noCapture}
 use Rattle.counter.specs.declared.next.Next.the-variants.{At}
 use Rattle.counter.specs.declared.state.Timer.{Timer}
 use Rattle.counter.specs.Fresh.{freshOf}
-use Rattle.tick.specs.Passage.{ticks}
+use Rattle.passage.specs.Passage.{ticks}
 use Rattle.timer.specs.declared.calls.Call.{Call}
 use Rattle.timer.specs.declared.calls.Call.the-variants.{Advance, Next, Peek, Write, Edge, Tifr, Sleep, Wake}
 use Rattle.answers.specs.Answers.{Values, none, byte, event, Told}

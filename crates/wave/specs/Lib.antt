@@ -1,4 +1,3 @@
-pub mod Units
 pub mod Kinds
 pub mod Count
 pub mod Distance

@@ -3,4 +3,3 @@
 pub mod count;
 pub mod distance;
 pub mod kinds;
-pub mod units;

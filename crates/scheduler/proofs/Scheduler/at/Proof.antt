@@ -4,9 +4,9 @@ use native.Mathlib.Omega.{arith}
 use lib.ListN.{length}
 use borrow.Author.Needs.{needs}
 use borrow.Author.Tests.{eq-eqb, ne-eqb}
-use Rattle.scheduler.specs.declared.events.Event.{Event}
+use Rattle.events.specs.declared.Event.{Event}
 use Rattle.scheduler.specs.Scheduler.{scheduled, put, held}
-use Rattle.scheduler.proofs.Places.{count-is}
+use Rattle.events.proofs.Places.{count-is}
 use Rattle.scheduler.proofs.Calls.{is-held, not-held, more}
 use Rattle.scheduler.proofs.Scheduler.at.Statement.{statement}
 use Rattle.scheduler.proofs.Scheduler.at.Tie as tie

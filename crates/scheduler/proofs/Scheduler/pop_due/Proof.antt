@@ -3,9 +3,9 @@ use native.Mathlib.Omega.{arith}
 use lib.ListN.{length}
 use borrow.Author.Needs.{needs}
 use borrow.Author.Tests.{le-leb, lt-leb, lt-ltb, le-ltb}
-use Rattle.scheduler.specs.Events.{earliest}
+use Rattle.events.specs.Events.{earliest}
 use Rattle.scheduler.specs.Scheduler.{held, popped}
-use Rattle.scheduler.proofs.Places.{count-is}
+use Rattle.events.proofs.Places.{count-is}
 use Rattle.scheduler.proofs.Calls.{foremost-held}
 use Rattle.scheduler.proofs.Scheduler.pop_due.Statement.{statement}
 use Rattle.scheduler.proofs.Scheduler.pop_due.Tie as tie

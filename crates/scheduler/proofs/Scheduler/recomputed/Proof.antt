@@ -1,7 +1,7 @@
 -- `scheduler::Scheduler::recomputed` meets its contract by that of `earliest`.
 use mathlib.Core.Path.{refl, ap}
 use borrow.Author.Needs.{needs}
-use Rattle.scheduler.specs.declared.events.Earliest.{Earliest}
+use Rattle.events.specs.declared.Earliest.{Earliest}
 use Rattle.scheduler.proofs.Calls.{made}
 use Rattle.scheduler.proofs.Scheduler.recomputed.Statement.{statement}
 use Rattle.scheduler.proofs.Scheduler.recomputed.Tie as tie

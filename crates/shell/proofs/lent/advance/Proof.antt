@@ -5,7 +5,7 @@ use mir.Syntax.{Fn}
 use contract.Running.{givenOf, tables, tablesOf}
 use denote.Triple.Spec.{tripleOf}
 use denote.Triple.Table.{entered, cited}
-use Rattle.tick.specs.Passage.{ticks}
+use Rattle.passage.specs.Passage.{ticks}
 use Rattle.counter.specs.Valid.{Valid}
 use Rattle.answers.specs.Answers.{Tells}
 use Rattle.timer.specs.Calls.{answered}

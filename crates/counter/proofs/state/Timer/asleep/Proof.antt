@@ -5,7 +5,7 @@ use Rattle.counter.proofs.state.Timer.asleep.Tie as tie
 
 returns : tie.Need-returns
 unfolding asleepAt
-returns c = c .with-halts .ensures
+returns c = simp (c .with-halts .ensures, c .before .sleep .ensures)
 
 pub asleep-spec : {M : Type 1} → statement M
-asleep-spec = tie.close (tie.spec (λ c κs. search needs) returns)
+asleep-spec = tie.close (tie.spec (λ c κs. search needs) (λ c κs. search needs) returns)

@@ -5,7 +5,7 @@ use Rattle.counter.proofs.state.Timer.prescaled.Tie as tie
 
 returns : tie.Need-returns
 unfolding prescaledAt
-returns c = c .with-clock .ensures
+returns c = simp (c .with-clock .ensures, c .before .restarted .ensures)
 
 pub prescaled-spec : {M : Type 1} → statement M
-prescaled-spec = tie.close (tie.spec (λ c κs. search needs) returns)
+prescaled-spec = tie.close (tie.spec (λ c κs. search needs) (λ c κs. search needs) returns)

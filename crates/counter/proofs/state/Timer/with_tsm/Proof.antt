@@ -5,11 +5,8 @@ use Rattle.counter.proofs.state.Timer.with_tsm.Tie as tie
 
 returns : tie.Need-returns
 unfolding tsmTo
-returns c = simp (c .before .with-halts .ensures, c .if1 .taken)
-
-returns-2 : tie.Need-returns-2
-unfolding tsmTo
-returns-2 c = simp (c .prescaled .ensures, c .before .before .with-halts .ensures, c .before .if1 .left)
+returns c = simp (c .with-clock .ensures, c .before .released .ensures, c .before .before .with-halts .ensures, c .before .before .before .with-tsm .ensures)
 
 pub with-tsm-spec : {M : Type 1} → statement M
-with-tsm-spec = tie.close (tie.spec (λ c κs. search needs) (λ c κs. search needs) returns returns-2)
+with-tsm-spec =
+    tie.close (tie.spec (λ c κs. search needs) (λ c κs. search needs) (λ c κs. search needs) (λ c κs. search needs) returns)

@@ -1,8 +1,6 @@
-use Prim.Native.Nat.{max}
 use native.Mathlib.Nat.{le-refl}
 use native.Mathlib.Omega.{arith}
-use mathlib.Core.Path.{_≡_, refl, sym, ap, _∙_}
-use mathlib.Core.Bool.{true, false}
+use mathlib.Core.Path.{_≡_, sym, ap, _∙_}
 use borrow.Author.Needs.{needs}
 use Rattle.counter.specs.Setting.{settingOf}
 use Rattle.counter.specs.Modes.{waveOf}
@@ -45,7 +43,7 @@ skip-requires : tie.Need-skip-requires
 skip-requires c κs = (begun-steady (begun (c .before .before .before)), omega (arith, c .if2 .taken, begun-gap (begun (c .before .before .before))))
 
 returns : tie.Need-returns
-returns c = begun-quiet (begun (c .before .before .before .before)) (c .before .before .before .before .before .before .before .before .before .before .before .before .before .before .before .before .before .before .args .area .now) (c .before .if2 .taken) (c .skip .ensures)
+returns c = begun-quiet (begun (c .before .before .before .before .before)) (c .before .before .before .before .before .before .before .before .before .before .before .before .before .before .before .before .before .before .before .args .area .now) (c .before .before .if2 .taken) (c .before .skip .ensures) (c .quiet .ensures)
 
 run-requires : tie.Need-run-requires
 run-requires c κs = begun-ready (begun (c .before .before .before .before .before)) (c .before .before .before .before .before .before .before .before .before .before .before .before .before .before .before .before .before .before .before .args .area .now) (is-setting (c .before))
@@ -53,23 +51,17 @@ run-requires c κs = begun-ready (begun (c .before .before .before .before .befo
 finish-requires : tie.Need-finish-requires
 finish-requires c κs = rw (c .before .before .before .run .kept .1 .1 .1 .1 .0) (c .before .before .before .run .ensures .ready)
 
-cycle-requires : tie.Need-cycle-requires
-cycle-requires c κs = begun-cycle (begun (c .before .before .before .before .before .before .before .before .before .before .before .before .before .before)) (c .before .before .before .before .finish .result .at .0) (c .before .before .before .before .finish .ensures .upto)
+of-requires : tie.Need-of-requires
+of-requires c κs = begun-cycle (begun (c .before .before .before .before .before .before .before .before .before .before .before .before)) (c .before .before .finish .result .at .0) (c .before .before .finish .ensures .upto)
 
 same-length : tie.Need-same-length
-same-length c = c .before .before .before .before .before .before .finish .kept .1 .1 .1 .1 .0 ∙ c .before .before .before .before .before .before .before .before .before .before .run .kept .1 .1 .1 .1 .0
+same-length c = c .before .before .before .finish .kept .1 .1 .1 .1 .0 ∙ c .before .before .before .before .before .before .before .run .kept .1 .1 .1 .1 .0
 
 returns-2 : tie.Need-returns-2
-returns-2 c = begun-works (begun (c .before .before .before .before .before .before .before .before .before .before .before .before .before .before .before .before)) (c .later .result) true (is-setting (c .before .before .before .before .before .before .before .before .before .before .before .before)) (c .before .before .before .before .before .before .before .before .before .before .run .ensures) (c .before .before .before .before .before .before .before .before .before .before .run .kept .1 .1 .1 .1 .0) (c .before .before .before .before .before .before .finish .kept .1 .1 .1 .1 .0) (c .before .before .before .before .before .before .finish .ensures) (c .before .before .if3 .taken) (c .later .ensures ∙ ap (max (c .before .before .before .before .before .before .before .before .before .before .before .before .before .before .before .before .before .before .before .before .before .before .before .before .before .before .before .before .before .before .args .self .clock .sync .0)) (c .before .cycle .ensures))
-
-same-length-2 : tie.Need-same-length-2
-same-length-2 c = c .before .before .before .before .finish .kept .1 .1 .1 .1 .0 ∙ c .before .before .before .before .before .before .before .before .run .kept .1 .1 .1 .1 .0
+returns-2 c = begun-works (begun (c .before .before .before .before .before .before .before .before .before .before .before .before .before)) (is-setting (c .before .before .before .before .before .before .before .before .before)) (c .before .before .before .before .before .before .before .run .ensures) (c .before .before .before .before .before .before .before .run .kept .1 .1 .1 .1 .0) (c .before .before .before .finish .kept .1 .1 .1 .1 .0) (c .before .before .before .finish .ensures) (c .of .ensures)
 
 returns-3 : tie.Need-returns-3
-returns-3 c = begun-works (begun (c .before .before .before .before .before .before .before .before .before .before .before .before .before .before)) (c .before .before .before .before .before .before .before .before .before .before .before .before .before .before .before .before .before .before .before .before .before .before .before .before .before .before .before .before .args .cycle .0) false (is-setting (c .before .before .before .before .before .before .before .before .before .before)) (c .before .before .before .before .before .before .before .before .run .ensures) (c .before .before .before .before .before .before .before .before .run .kept .1 .1 .1 .1 .0) (c .before .before .before .before .finish .kept .1 .1 .1 .1 .0) (c .before .before .before .before .finish .ensures) (c .if3 .left) refl
-
-returns-4 : tie.Need-returns-4
-returns-4 c = idle (c .before .before .before .before .before .before .args .self) (c .before .before .before .before .before .before .args .cycle .0) (c .before .before .before .before .before .before .args .area .now) (sym (c .before .running .ensures) ∙ c .if1 .left) (c .before .before .moving .ensures)
+returns-3 c = idle (c .before .before .before .before .before .before .before .args .self) (c .before .before .before .before .before .before .before .args .cycle .0) (c .before .before .before .before .before .before .before .args .area .now) (sym (c .before .before .running .ensures) ∙ c .before .if1 .left) (c .before .before .before .moving .ensures) (c .quiet2 .ensures)
 
 pub work-spec : {M : Type 1} → statement M
 work-spec =
@@ -87,14 +79,13 @@ work-spec =
     (λ c. search needs)
     (λ c. search needs)
     skip-requires
+    (λ c κs. search needs)
     returns
     (λ c κs. search needs)
     run-requires
     finish-requires
-    cycle-requires
+    of-requires
     (λ c κs. search needs)
     same-length
     returns-2
-    same-length-2
-    returns-3
-    returns-4)
+    returns-3)

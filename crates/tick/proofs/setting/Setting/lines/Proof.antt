@@ -1,12 +1,11 @@
 use borrow.Author.Needs.{needs}
-use lib.Bits.{and-zero-l}
 use Rattle.tick.specs.Tick.{line, lines}
 use Rattle.tick.proofs.setting.Setting.lines.Statement.{statement}
 use Rattle.tick.proofs.setting.Setting.lines.Tie as tie
 
 returns : tie.Need-returns
 unfolding line lines
-returns c = simp (c .if1 .taken, and-zero-l)
+returns c = simp (c .if1 .taken)
 
 returns-2 : tie.Need-returns-2
 unfolding lines

@@ -1,0 +1,110 @@
+// Answers as bytes, on a page that is written out whenever it is full.
+
+use libc::STDOUT_FILENO;
+use words::EXTRA_WORD;
+use words::MALFORMED;
+use words::MISSING_WORD;
+use words::TOO_LARGE;
+use words::UNKNOWN_COMMAND;
+use words::UNKNOWN_KEY;
+use words::UNKNOWN_NAME;
+ghost use Prim.Native.Nat.{_<_};
+
+// The bytes of a page.
+pub const SIZE: usize = 8192;
+
+pub type Page = [u8; SIZE];
+
+// Puts a byte at a place of the page, or on the next page; yields the place after it.
+pub fn byte(page: &mut Page, at: usize, b: u8) -> usize {
+    if at < SIZE {
+        page[at] = b;
+        return at + 1;
+    }
+    io::write_all(STDOUT_FILENO, page);
+    page[0] = b;
+    1
+}
+
+// Puts some bytes; yields the place after them.
+pub fn text(page: &mut Page, from: usize, bytes: &[u8]) -> usize {
+    let mut at = from;
+    let mut i = 0;
+    while i < bytes.len() {
+        at = byte(page, at, bytes[i]);
+        i += 1;
+    }
+    at
+}
+
+// Puts a label and a number's decimal digits; yields the place after them.
+pub fn number(page: &mut Page, from: usize, label: &[u8], n: u64) -> usize {
+    let mut digits = [0u8; 20];
+    let k = io::decimal(n, &mut digits);
+    let at = text(page, from, label);
+    text(page, at, &digits[..k])
+}
+
+// Puts a label and a number's sixteen hexadecimal digits; yields the place after them.
+pub fn sixteen(page: &mut Page, from: usize, label: &[u8], n: u64) -> usize {
+    let mut digits = [0u8; 16];
+    let k = io::hex(n, 16, &mut digits);
+    let at = text(page, from, label);
+    text(page, at, &digits[..k])
+}
+
+// The hexadecimal digit of a number below sixteen.
+fn glyph(n: u8) -> u8
+    requires { ⌜ n < 16 ⌝ }
+{
+    if n < 10 { 48 + n } else { 87 + n }
+}
+
+// Puts a byte's two hexadecimal digits; yields the place after them.
+pub fn two(page: &mut Page, from: usize, b: u8) -> usize {
+    let at = byte(page, from, glyph(b / 16));
+    byte(page, at, glyph(b % 16))
+}
+
+// Puts a label and a register's two digits; yields the place after them.
+pub fn register(page: &mut Page, from: usize, label: &[u8], b: u8) -> usize {
+    let at = text(page, from, label);
+    two(page, at, b)
+}
+
+// Puts a label and a bit as 0 or 1; yields the place after them.
+pub fn bit(page: &mut Page, from: usize, label: &[u8], b: bool) -> usize {
+    let at = text(page, from, label);
+    if b {
+        byte(page, at, b'1')
+    } else {
+        byte(page, at, b'0')
+    }
+}
+
+// Puts why a line cannot be read.
+fn reason(page: &mut Page, at: usize, why: u8) -> usize {
+    match why {
+        UNKNOWN_COMMAND => text(page, at, b": unknown command"),
+        UNKNOWN_KEY => text(page, at, b": unknown key"),
+        UNKNOWN_NAME => text(page, at, b": unknown name"),
+        MISSING_WORD => text(page, at, b": missing word"),
+        EXTRA_WORD => text(page, at, b": extra word"),
+        MALFORMED => text(page, at, b": malformed number"),
+        TOO_LARGE => text(page, at, b": number too large"),
+        _ => text(page, at, b": line too long"),
+    }
+}
+
+// Puts that the nth line cannot be read, and why; yields the place after that.
+pub fn unreadable(page: &mut Page, from: usize, nth: u64, why: u8) -> usize {
+    let at = number(page, from, b"error line ", nth);
+    reason(page, at, why)
+}
+
+// Writes out the page up to a place.
+pub fn flush(page: &[u8], at: usize) {
+    if at <= page.len() {
+        io::write_all(STDOUT_FILENO, &page[0..at]);
+    }
+}

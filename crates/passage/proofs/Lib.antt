@@ -1,0 +1,3 @@
+pub mod Runs
+pub mod Loops
+pub mod Events

@@ -1,0 +1,130 @@
+// A run: event by event up to a tick, or to the first whose records do not fit.
+
+use records::Log;
+use tick::setting::Moving;
+use tick::setting::Setting;
+use time::units::Prescaler;
+use time::units::Ticks;
+ghost use Prim.Native.Nat.{_+_};
+ghost use lib.ListN.{length};
+ghost use Rattle.passage.specs.Passage.{Ready, Ran, Made, Finishes};
+
+// Where a run stands: what moved, quiet ticks that lie ahead, the number of its last tick, and the place of the next record.
+pub struct Progress {
+    pub moving: Moving,
+    pub gap: u32,
+    pub at: Ticks,
+    pub to: usize,
+}
+
+// An event's tick made aside: how the run stands after it, and its records.
+pub struct Aside {
+    pub after: Progress,
+    pub log: Log,
+}
+
+// Where a run ends: at its last tick, or before the first whose records do not fit.
+pub struct Finished {
+    pub moving: Moving,
+    pub at: Ticks,
+    pub to: usize,
+    pub paused: bool,
+}
+
+impl Progress {
+    // Event by event up to a tick, while there are 110 bytes for the event's records.
+    pub fn run(self, s: Setting, end: Ticks, p: Prescaler, area: &mut [u8]) -> Progress
+        requires { ⌜ Ready s p self (end .0) (length (now area)) ⌝ }
+        ensures { λ r. ⌜ Ran s p self (end .0) (now (area .entry)) r (now (area .exit)) ⌝ }
+    {
+        let wave = s.wave;
+        let from = self.at;
+        let mut m = self.moving;
+        let mut gap = self.gap;
+        let mut at = from.0;
+        let mut to = self.to;
+        while ((gap as u64) < end.0 - at) & (110 <= area.len() - to) {
+            let near = m.skip(wave, gap);
+            let tick = at + (gap as u64) + 1;
+            let t = s.tick(near, area, to, p.cycle(Ticks(tick)));
+            m = t.moving;
+            to = t.to;
+            at = tick;
+            let counter = m.counter;
+            let ocr = m.ocr;
+            gap = wave.gap(counter, ocr);
+        }
+        Progress {
+            moving: m,
+            gap,
+            at: Ticks(at),
+            to,
+        }
+    }
+
+    // The next event's tick, its records in a log aside.
+    pub fn aside(self, s: Setting, p: Prescaler) -> Aside
+        requires { ⌜ Ready s p self (self .at .0 + (self .gap + 1)) (self .to) ⌝ }
+        ensures { λ r. ⌜ Made s p self r ⌝ }
+    {
+        let mut bytes = [0u8; 110];
+        let at = self.at;
+        let moving = self.moving;
+        let begin = Progress {
+            moving,
+            gap: self.gap,
+            at,
+            to: 0,
+        };
+        let after = begin.run(s, Ticks(at.0 + ((self.gap as u64) + 1)), p, &mut bytes);
+        let log = Log {
+            bytes,
+            len: after.to,
+        };
+        Aside { after, log }
+    }
+
+    // The events near the area's end: each is made aside first, and written if it fits. Then the quiet ticks that are left.
+    pub fn finish(self, s: Setting, end: Ticks, p: Prescaler, area: &mut [u8]) -> Finished
+        requires { ⌜ Ready s p self (end .0) (length (now area)) ⌝ }
+        ensures { λ r. ⌜ Finishes s p self (end .0) (now (area .entry)) r (now (area .exit)) ⌝ }
+    {
+        let wave = s.wave;
+        let first = self.at;
+        let mut r = self;
+        let mut at = first.0;
+        while (r.gap as u64) < end.0 - at {
+            let to = r.to;
+            let gap = r.gap;
+            let next = r.aside(s, p);
+            let log = next.log;
+            let after = next.after;
+            let moving = after.moving;
+            if log.write(area, to) {
+                let tick = after.at;
+                at = tick.0;
+                r = Progress {
+                    moving,
+                    gap: after.gap,
+                    at: tick,
+                    to: to + log.len,
+                };
+            } else {
+                let m = r.moving;
+                return Finished {
+                    moving: m.skip(wave, gap),
+                    at: Ticks(at + (gap as u64)),
+                    to,
+                    paused: true,
+                };
+            }
+        }
+        let m = r.moving;
+        Finished {
+            moving: m.skip(wave, (end.0 - at) as u32),
+            at: end,
+            to: r.to,
+            paused: false,
+        }
+    }
+}
