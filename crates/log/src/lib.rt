@@ -1,0 +1,35 @@
+// A log of up to 6,000 records of ten bytes in a lent area, which gives the space of released records back. A log goes in
+// by value and comes back.
+
+mod adding;
+mod releasing;
+
+ghost use mathlib.Core.Path.{_≡_};
+ghost use Rattle.log.specs.Log.{empty, Valid};
+
+// How many records are held at most, and the bytes of the area that they lie in.
+pub const PLACES: usize = 6000;
+
+pub const BYTES: usize = 60000;
+
+pub struct Ring {
+    // The place of the next record, 0 to 5,999.
+    next: usize,
+    // How many records are held, 0 to 6,000.
+    held: usize,
+}
+
+// What a call answers: 0, or the number of its refusal; and the log after it.
+pub struct Answer {
+    pub number: u8,
+    pub ring: Ring,
+}
+
+impl Ring {
+    // A log that holds no record.
+    pub fn new() -> Ring
+        ensures { λ r. ⌜ (r ≡ empty) × Valid r ⌝ }
+    {
+        Ring { next: 0, held: 0 }
+    }
+}
