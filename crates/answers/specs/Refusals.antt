@@ -1,7 +1,8 @@
 -- Calls turned away (01, the table of that name): the first number that applies.
-use Prim.Native.Nat.{ℕ, _-_, _^_}
+use Prim.Native.Nat.{ℕ}
 use mathlib.Core.Bool.{Bool, cond, not, _&&_}
-use lib.Dec.{leb, ltb, eqb}
+use lib.Dec.{leb, eqb}
+use Rattle.time.specs.Units.{lateAt}
 use Rattle.counter.specs.declared.state.Timer.{Timer}
 use Rattle.counter.specs.Modes.{runningOf}
 use Rattle.counter.specs.Next.{nextAt}
@@ -12,7 +13,7 @@ isDue t cycle = runningOf t && leb (nextAt t) cycle
 
 -- 2: cycle over 2^62 − 1; 3: cycle below the latest accepted
 unfoldable pub late : Timer → ℕ → ℕ
-late t cycle = cond (ltb (2 ^ 62 - 1) cycle) 2 (cond (ltb cycle (t .clock .latest .0)) 3 0)
+late t cycle = lateAt (t .clock .latest .0) cycle
 
 -- then 4, 5, 6 and 7; 0 for none
 unfoldable pub refusal : Timer → ℕ → Bool → Bool → Bool → Bool → ℕ

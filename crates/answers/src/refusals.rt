@@ -7,9 +7,6 @@ ghost use mathlib.Core.Path.{_≡_};
 ghost use Rattle.counter.specs.Valid.{Valid};
 ghost use Rattle.answers.specs.Refusals.{isDue, late, refusal};
 
-// The largest cycle, 2^62 - 1.
-pub const LAST: u64 = 0x3fff_ffff_ffff_ffff;
-
 // Does the next event lie at or before a cycle.
 pub fn is_due(t: Timer, cycle: Cycle) -> bool
     requires { ⌜ Valid t ⌝ }
@@ -27,14 +24,7 @@ pub fn late(t: Timer, cycle: Cycle) -> u8
     ensures { λ r. ⌜ r ≡ late t (cycle .0) ⌝ }
 {
     let clock = t.clock;
-    let latest = clock.latest;
-    if LAST < cycle.0 {
-        2
-    } else if cycle.0 < latest.0 {
-        3
-    } else {
-        0
-    }
+    cycle.refusal(clock.latest)
 }
 
 // The refusal's number, 0 for none: the cycle's, then 4 and 5 as told, 6 where the event is to be tested, 7 as told.

@@ -2,13 +2,29 @@
 
 ghost use Prim.Native.Nat.{_<_, _≤_, _^_, max};
 ghost use mathlib.Core.Path.{_≡_};
-ghost use Rattle.time.specs.Units.{ticksAt, cycleAt};
+ghost use Rattle.time.specs.Units.{lateAt, ticksAt, cycleAt};
 
 // A CPU cycle.
 #[repr(C)]
 pub struct Cycle(pub u64);
 
+// The largest cycle that a call may have, 2^62 - 1.
+const LAST: u64 = 0x3fff_ffff_ffff_ffff;
+
 impl Cycle {
+    // 2 or 3 where a call's cycle is too large or below the latest accepted, else 0.
+    pub fn refusal(self, latest: Cycle) -> u8
+        ensures { λ r. ⌜ r ≡ lateAt (latest .0) (self .0) ⌝ }
+    {
+        if LAST < self.0 {
+            2
+        } else if self.0 < latest.0 {
+            3
+        } else {
+            0
+        }
+    }
+
     // The later of two.
     pub fn later(self, cycle: Cycle) -> Cycle
         ensures { λ r. ⌜ r .0 ≡ max (self .0) (cycle .0) ⌝ }
