@@ -1,0 +1,5 @@
+pub mod Bytes
+pub mod Rests
+pub mod Lists
+pub mod Claims
+pub mod Readings

@@ -1,0 +1,13 @@
+use Rattle.writes.proofs.Bytes.{item-at}
+use native.Mathlib.Omega.{arith}
+use borrow.Author.Needs.{needs}
+use Rattle.writes.proofs.items.Item.at.Statement.{statement}
+use Rattle.writes.proofs.items.Item.at.Tie as tie
+
+returns : tie.Need-returns
+returns c = item-at (c .before .before .before .args .list .now) (c .before .before .before .args .from) _ _ (c .before .before .before .pre) (c .before .number .ensures) (c .number2 .ensures)
+
+pub at-spec : {M : Type 1} → statement M
+at-spec =
+    tie.close
+    (tie.spec (λ c κs. search needs) (λ c. search needs) (λ c κs. search needs) (λ c. search needs) (λ c. search needs) (λ c. search needs) (λ c. search needs) returns)

@@ -1,0 +1,33 @@
+use borrow.Author.Needs.{needs}
+use Rattle.writes.proofs.stops.Statement.{statement}
+use Rattle.writes.proofs.stops.Tie as tie
+
+returns : tie.Need-returns
+returns c = rw (c .before .answer .given .1)
+
+returns-2 : tie.Need-returns-2
+returns-2 c = rw (c .enum-told .given .1)
+
+returns-3 : tie.Need-returns-3
+returns-3 c = rw (c .before .answer2 .given .1)
+
+returns-4 : tie.Need-returns-4
+returns-4 c = rw (c .before .answer3 .given .1)
+
+returns-5 : tie.Need-returns-5
+returns-5 c = rw (c .before .answer4 .given .1)
+
+pub stops-spec : {M : Type 1} → statement M
+stops-spec =
+    tie.close
+    (tie.spec
+    (λ c. search needs)
+    (λ c. search needs)
+    (λ c. search needs)
+    (λ c. search needs)
+    (λ c. search needs)
+    returns
+    returns-2
+    returns-3
+    returns-4
+    returns-5)

@@ -1,0 +1,3 @@
+pub mod Items
+pub mod Writes
+pub mod Claims
