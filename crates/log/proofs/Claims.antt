@@ -11,7 +11,8 @@ use lib.ListN.{length, getD, drop, length-append, length-drop, List·getD-append
 use lib.Seq.{sets, length-sets, getD-append-seam, getD-drop, drop-drop, drop-append-le}
 use borrow.Author.Tests.{eqb-true, eqb-false, leb-true}
 use Rattle.log.specs.declared.Ring.{Ring}
-use Rattle.log.specs.Log.{empty, added, released, recordAt, placeOf, Valid}
+use Rattle.records.specs.Records.{recordAt}
+use Rattle.log.specs.Log.{empty, added, released, placeOf, Valid}
 use Rattle.log.specs.Claims.{Call, add, release, Soak, fresh, answered, after, run, numbers, Account, nothing, numberOf, booked, noted, account, numbersOf, soaked, accounted, Answers, Keeps, Placed, Accounts, History, none, called, CodeIsRun, Reading}
 use Rattle.log.proofs.Places.{at-place, elsewhere}
 

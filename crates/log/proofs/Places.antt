@@ -6,7 +6,7 @@ use mathlib.Core.Path.{_≡_, refl, sym, ap, _∙_}
 use mathlib.Core.List.{List, [], _∷_, _++_, append-assoc}
 use lib.ListN.{length, set, take, drop}
 use lib.Seq.{sets, sets-eq, length-take-le, take-at, drop-at, take-set-le, drop-set-lt, drop-set-add}
-use Rattle.log.specs.Log.{recordAt}
+use Rattle.records.specs.Records.{recordAt}
 
 -- n elements from m on, after stores before them
 before : (vs l : List ℕ) (i m n : ℕ) → i + length vs ≤ m → take n (drop m (sets l i vs)) ≡ take n (drop m l)

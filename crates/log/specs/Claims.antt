@@ -7,7 +7,8 @@ use lib.Dec.{eqb, leb}
 use lib.ListN.{length, getD, drop}
 use Rattle.log.specs.declared.Ring.{Ring}
 use Rattle.log.specs.declared.Answer.{Answer}
-use Rattle.log.specs.Log.{empty, added, released, recordAt, placeOf, Valid}
+use Rattle.records.specs.Records.{recordAt}
+use Rattle.log.specs.Log.{empty, added, released, placeOf, Valid}
 
 -- a call of each method; adding takes one ten-byte record
 pub data Call : Type 0 where

@@ -3,7 +3,7 @@ use Prim.Native.Nat.{ℕ, _+_, _-_, _*_, _%_, _≤_, _<_}
 use mathlib.Core.Bool.{Bool, cond}
 use mathlib.Core.List.{List}
 use lib.Dec.{eqb, leb}
-use lib.ListN.{length, take, drop}
+use lib.ListN.{length}
 use lib.Seq.{sets}
 use Rattle.log.specs.declared.Ring.{Ring}
 
@@ -37,10 +37,6 @@ released s area count =
     (0, record { next = s .next; held = s .held - count }, area)
     (20, s, area))
     (21, s, area)
-
--- the ten bytes at a place, where the shell reads a record (02, 2.12)
-unfoldable pub recordAt : List ℕ → ℕ → List ℕ
-recordAt area place = take 10 (drop (10 * place) area)
 
 -- the place of the i-th record held, from 0, oldest first (02, 2.12)
 unfoldable pub placeOf : Ring → ℕ → ℕ
