@@ -1,4 +1,4 @@
--- Fresh timers, sleep and wake, power reduction, TSM, prescaler reset, reset (01, "Count, direction, next event").
+-- Sleep and wake, power reduction, TSM, prescaler reset, reset (01, "Count, direction, next event").
 use Prim.Native.Nat.{ℕ}
 use mathlib.Core.Bool.{Bool, true, not, _&&_}
 use mathlib.Core.List.{[], _∷_}

@@ -1,6 +1,6 @@
 // A lent list of register writes, worked in one call.
 
-pub mod items;
+mod items;
 
 use crate::items::Item;
 use answers::Answer;
@@ -59,7 +59,7 @@ impl Why {
 }
 
 // One item: the advance to its cycle and, where that does not stop, the write in what is left of the area.
-pub fn work(t: Timer, item: Item, area: &mut [u8]) -> Outcome
+fn work(t: Timer, item: Item, area: &mut [u8]) -> Outcome
     requires { ⌜ Valid t ⌝ }
     ensures { λ r. ⌜ Tells (worked ticks t item (now (area .entry))) r (now (area .exit)) ⌝ }
 {
