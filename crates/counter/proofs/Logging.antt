@@ -11,7 +11,7 @@ use Rattle.records.specs.declared.Entry.{Entry}
 use Rattle.records.specs.declared.Log.{Log}
 use Rattle.records.specs.Records.{recordsOf}
 use Rattle.records.proofs.Records.{take-sets}
-use Rattle.tick.specs.declared.events.Events.{Events}
+use Rattle.tick.specs.declared.happenings.Events.{Events}
 use Rattle.tick.specs.declared.outputs.Outputs.{Outputs}
 use Rattle.tick.specs.declared.setting.Setting.{Setting}
 use Rattle.tick.specs.Outputs.{outsOf, Wrote, reapplied, strobed}

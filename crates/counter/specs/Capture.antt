@@ -4,7 +4,7 @@ use mathlib.Core.Bool.{Bool, true, false, not, _&&_, _||_}
 use lib.Bits.{bitOr}
 use lib.Dec.{eqb}
 use Rattle.wave.specs.Kinds.{I}
-use Rattle.tick.specs.declared.events.Events.{Events}
+use Rattle.tick.specs.declared.happenings.Events.{Events}
 use Rattle.tick.specs.Tick.{raised, flagLog}
 use Rattle.counter.specs.declared.state.Timer.{Timer}
 use Rattle.counter.specs.Logs.{Noted}

@@ -7,7 +7,7 @@ use lib.Dec.{eqb, leb}
 use Rattle.config.specs.declared.Config.{Config}
 use Rattle.config.specs.Config.{split, bare}
 use Rattle.wave.specs.Kinds.{C}
-use Rattle.tick.specs.declared.events.Events.{Events}
+use Rattle.tick.specs.declared.happenings.Events.{Events}
 use Rattle.tick.specs.Outputs.{Outs, outsOf, reapplied, strobed}
 use Rattle.counter.specs.declared.state.Timer.{Timer}
 use Rattle.counter.specs.Logs.{Noted, silent}

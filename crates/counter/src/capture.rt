@@ -5,7 +5,7 @@ use crate::state::Flags;
 use crate::state::Timer;
 use config::SYNC;
 use records::Log;
-use tick::events::Events;
+use tick::happenings::Events;
 use tick::flags::put_flags;
 use time::units::Cycle;
 use wave::kinds::ICR;

@@ -7,7 +7,7 @@ use config::Config;
 use config::SINGLE;
 use config::SPLIT;
 use records::Log;
-use tick::events::Events;
+use tick::happenings::Events;
 use tick::outputs::Outputs;
 use time::units::Cycle;
 use wave::kinds::CTC;

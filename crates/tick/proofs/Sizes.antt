@@ -9,7 +9,7 @@ use Rattle.records.specs.declared.Entry.{Entry}
 use Rattle.records.specs.Records.{only, recordsOf}
 use Rattle.records.proofs.Records.{records-length}
 use Rattle.config.specs.declared.Wire.{Wire}
-use Rattle.tick.specs.declared.events.Events.{Events}
+use Rattle.tick.specs.declared.happenings.Events.{Events}
 use Rattle.tick.specs.declared.setting.Channel.{Channel}
 use Rattle.tick.specs.declared.setting.Moving.{Moving}
 use Rattle.tick.specs.declared.setting.Setting.{Setting}

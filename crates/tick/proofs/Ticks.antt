@@ -15,7 +15,7 @@ use Rattle.records.specs.Records.{recordOf, recordsOf, only}
 use Rattle.records.proofs.Records.{only-length}
 use Rattle.wave.specs.Count.{topOf, nextCount, nextDirection, Turns}
 use Rattle.wave.proofs.Signs.{turn-back}
-use Rattle.tick.specs.declared.events.Events.{Events}
+use Rattle.tick.specs.declared.happenings.Events.{Events}
 use Rattle.tick.specs.declared.outputs.Outputs.{Outputs}
 use Rattle.tick.specs.declared.setting.Moving.{Moving}
 use Rattle.tick.specs.declared.setting.Setting.{Setting}

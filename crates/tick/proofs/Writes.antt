@@ -13,7 +13,7 @@ use Rattle.records.specs.Records.{recordOf, recordsOf}
 use Rattle.records.proofs.Records.{record-length, records-one, records-append, records-then}
 use Rattle.config.specs.declared.Wire.{Wire}
 use Rattle.wave.specs.Kinds.{C}
-use Rattle.tick.specs.declared.events.Events.{Events}
+use Rattle.tick.specs.declared.happenings.Events.{Events}
 use Rattle.tick.specs.declared.outputs.Outputs.{Outputs}
 use Rattle.tick.specs.declared.setting.Channel.{Channel}
 use Rattle.tick.specs.declared.setting.Setting.{Setting}

@@ -10,7 +10,7 @@ use Rattle.records.specs.declared.Entry.{Entry}
 use Rattle.records.specs.Records.{recordsOf}
 use Rattle.config.specs.declared.Wire.{Wire}
 use Rattle.wave.specs.Kinds.{F, C}
-use Rattle.tick.specs.declared.events.Events.{Events}
+use Rattle.tick.specs.declared.happenings.Events.{Events}
 use Rattle.tick.specs.declared.outputs.Outputs.{Outputs}
 use Rattle.tick.specs.declared.setting.Channel.{Channel}
 use Rattle.tick.specs.declared.setting.Moving.{Moving}

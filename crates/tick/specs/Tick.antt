@@ -11,7 +11,7 @@ use Rattle.records.specs.declared.Entry.{Entry}
 use Rattle.records.specs.Records.{only, recordsOf}
 use Rattle.wave.specs.Kinds.{F, I}
 use Rattle.wave.specs.Count.{topOf, hits, overflows, loads, nextCount, nextDirection, atTop, atZero, rising}
-use Rattle.tick.specs.declared.events.Events.{Events}
+use Rattle.tick.specs.declared.happenings.Events.{Events}
 use Rattle.tick.specs.declared.tick.Ticked.{Ticked}
 use Rattle.tick.specs.declared.setting.Moving.{Moving}
 use Rattle.tick.specs.declared.setting.Setting.{Setting}

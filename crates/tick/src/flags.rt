@@ -1,6 +1,6 @@
 // Flags, request lines and triggers, and their records.
 
-use crate::events::Events;
+use crate::happenings::Events;
 use crate::outputs::bit;
 use crate::setting::Setting;
 use records::Entry;

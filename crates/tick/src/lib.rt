@@ -1,7 +1,7 @@
 // One tick with its records.
 
-pub mod events;
 pub mod flags;
+pub mod happenings;
 pub mod outputs;
 pub mod setting;
 pub mod tick;

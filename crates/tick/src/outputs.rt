@@ -1,6 +1,6 @@
 // Compare outputs, and the drives recorded on change.
 
-use crate::events::Events;
+use crate::happenings::Events;
 use crate::setting::Channel;
 use crate::setting::Drives;
 use crate::setting::Moving;
