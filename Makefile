@@ -21,7 +21,8 @@ CARGO := MCS="$(abspath $(MCS))" cargo
 
 # Each command of the script with its answer under it; the story's answers are held to those that are stored.
 run:
-	@examples/run.sh $(SCRIPT)
+	$(if $(shell test -f "$(SCRIPT)" && test -r "$(SCRIPT)" && echo yes),,$(error run: there is no script $(SCRIPT) that can be read))
+	@examples/run.sh "$(SCRIPT)"
 
 test:
 	bash .ci/run
