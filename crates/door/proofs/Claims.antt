@@ -10,9 +10,10 @@ use borrow.Author.Tests.{not-true}
 use Rattle.door.specs.declared.Rule.{Rule}
 use Rattle.door.specs.declared.Rule.the-variants.{One, Two}
 use Rattle.door.specs.declared.Door.{Door}
+use Rattle.door.specs.declared.Set.the-variants.{Made}
 use Rattle.door.specs.Door.{accepted, rearms, dueUnder, idle, begins, edgeTaken, setTo, late, edged, closeOf, Valid}
-use Rattle.door.specs.Claims.{after, numbers, Kept, beginsHold, sameHold, DueBy, Capped, NotAfter, NoLaterThan, NoLater, played, replayed, Readings}
-use Rattle.door.proofs.Doors.{left, right, cond-case, one-too, set-valid, edged-valid}
+use Rattle.door.specs.Claims.{after, numbers, Makes, Kept, beginsHold, sameHold, DueBy, Capped, NotAfter, NoLaterThan, NoLater, played, begun, replayed, Readings}
+use Rattle.door.proofs.Doors.{left, right, cond-case, one-too, made, made-valid, edged-valid}
 
 -- ---- what the calls keep
 after-valid : (d : Door) (edges : List ℕ) → Valid d → Valid (after d edges)
@@ -21,7 +22,7 @@ after-valid d [] v = v
 after-valid d (edge ∷ edges) v = after-valid (edged d edge .door) edges (edged-valid d edge v)
 
 pub kept : Kept
-kept rule edges = after-valid (setTo rule .door) edges (set-valid rule)
+kept rule door m edges = after-valid door edges (made-valid rule door m)
 
 -- ---- tests of a door
 
@@ -67,10 +68,10 @@ unfolding after
 after-rule d [] = refl
 after-rule d (edge ∷ edges) = after-rule (edged d edge .door) edges ∙ edged-rule d edge
 
--- a rule that can be set is that of the door
-set-door : (rule : Rule) → accepted rule ≡ true → setTo rule .door ≡ idle rule
+-- an accepted rule can be set
+makes : (rule : Rule) → accepted rule ≡ true → Makes rule (idle rule)
 unfolding setTo
-set-door rule a = simp a
+makes rule a = simp a
 
 -- ---- a hold is capped
 
@@ -79,9 +80,9 @@ record Since (edge : ℕ) (d : Door) : Type 0 where
   holding : d .holding ≡ true
   first : d .first .0 ≡ edge
 
-begun : (d : Door) (edge : ℕ) → beginsHold d edge ≡ true → Since edge (edged d edge .door)
+begins-since : (d : Door) (edge : ℕ) → beginsHold d edge ≡ true → Since edge (edged d edge .door)
 unfolding edged edgeTaken
-begun d edge e =
+begins-since d edge e =
     simp (left (eqb (late d edge) 0) (begins d edge) e, right (eqb (late d edge) 0) (begins d edge) e) (record { holding = refl; first = refl })
 
 -- an edge that begins no hold
@@ -112,16 +113,13 @@ after-append d (edge ∷ before) edges = after-append (edged d edge .door) befor
 
 pub capped : Capped
 unfolding after
-capped hold quiet cap a = record { always = always; own = own }
+capped hold quiet cap start m = record { always = always; own = own }
   where
-    start : Door
-    start = setTo (Two hold quiet cap) .door
-
     two : (edges : List ℕ) → after start edges .rule ≡ Two hold quiet cap
-    two edges = after-rule start edges ∙ rw (set-door (Two hold quiet cap) a)
+    two edges = after-rule start edges ∙ rw (made (Two hold quiet cap) start m .1) refl
 
     always : (edges : List ℕ) → after start edges .holding ≡ true → after start edges .due .0 ≤ after start edges .first .0 + cap
-    always edges = by-cap (after start edges) (kept (Two hold quiet cap) edges) (two edges)
+    always edges = by-cap (after start edges) (kept (Two hold quiet cap) start m edges) (two edges)
 
     due-by : (edge : ℕ) (edges : List ℕ) → Since edge (after start edges) → DueBy (edge + cap) (closeOf (after start edges))
     due-by edge edges s = let h = always edges (s .holding) in let f = s .first in rw (s .holding) (omega arith)
@@ -129,7 +127,7 @@ capped hold quiet cap a = record { always = always; own = own }
     own : (before : List ℕ) (edge : ℕ) (stream : List ℕ) → beginsHold (after start before) edge ≡ true → sameHold (after start (before ++ edge ∷ [])) stream ≡ true → DueBy (edge + cap) (closeOf (after start (before ++ edge ∷ stream)))
     own before edge stream e f =
         due-by edge (before ++ edge ∷ stream)
-        (rw after-append (stream-since edge (edged (after start before) edge .door) stream (begun (after start before) edge e) (rw after-append at f)))
+        (rw after-append (stream-since edge (edged (after start before) edge .door) stream (begins-since (after start before) edge e) (rw after-append at f)))
 
 -- ---- rule two is no later than rule one
 
@@ -185,10 +183,12 @@ module _ {hold quiet cap : ℕ} where
       record { alike = rw (rest .alike, late-alike b edge); due = rest .due }
 
 pub no-later : NoLater
-no-later hold quiet cap a edges =
-    let start : Beside hold quiet cap (setTo (One hold) .door) (setTo (Two hold quiet cap) .door) = rw (set-door (One hold) (one-too hold quiet cap a), set-door (Two hold quiet cap) a) (record { first = refl; second = refl; latest = refl; holding = refl; due = λ e. absurd (unheld e) }) in
-    after-beside (setTo (One hold) .door) (setTo (Two hold quiet cap) .door) edges (set-valid (Two hold quiet cap)) start
+no-later hold quiet cap two m =
+    let can = made (Two hold quiet cap) two m in
+    let one = idle (One hold) in
+    let start : Beside hold quiet cap one two = rw (can .1) (record { first = refl; second = refl; latest = refl; holding = refl; due = λ e. absurd (unheld e) }) in
+    (makes (One hold) (one-too hold quiet cap (can .0)), λ edges. after-beside one two edges (made-valid (Two hold quiet cap) two m) start)
 
 pub readings-hold : Readings
-unfolding accepted rearms dueUnder edgeTaken setTo late edged played replayed
+unfolding accepted rearms dueUnder edgeTaken setTo late edged played begun replayed
 readings-hold = refl

@@ -8,7 +8,8 @@ use borrow.Author.Tests.{leb-true, ltb-false}
 use Rattle.door.specs.declared.Rule.{Rule}
 use Rattle.door.specs.declared.Rule.the-variants.{One, Two}
 use Rattle.door.specs.declared.Door.{Door}
-use Rattle.door.specs.declared.Set.{Set}
+use Rattle.door.specs.declared.Edged.{Edged}
+use Rattle.door.specs.declared.Set.the-variants.{Refused, Made}
 use Rattle.door.specs.Door.{inRange, accepted, rearms, idle, heldFrom, begins, edgeTaken, setTo, late, edged, Valid}
 
 -- ---- tests and choices
@@ -53,7 +54,7 @@ module _ {rule : Rule} {hold quiet cap : ℕ} (e : rule ≡ Two hold quiet cap) 
   two-cap = within cap (ranges hold quiet cap (rw e at a) .1)
 
 -- ---- every call leaves a valid door
-idle-valid : (rule : Rule) → accepted rule ≡ true → Valid (idle rule)
+pub idle-valid : (rule : Rule) → accepted rule ≡ true → Valid (idle rule)
 idle-valid rule a = record { rule = a; first = omega arith; rearmed = omega arith; latest = omega arith; due = λ e. cc }
 
 held-valid : (rule : Rule) (first rearmed : ℕ) → accepted rule ≡ true → first ≤ rearmed → rearmed < 2 ^ 62 → Valid (heldFrom rule first rearmed)
@@ -68,9 +69,17 @@ taken-valid d cycle v h k =
     (λ e. held-valid (d .rule) (d .first .0) cycle (v .rule) (omega arith) k)
     (λ e. record { rule = v .rule; first = v .first; rearmed = omega arith; latest = k; due = v .due }))
 
-pub set-valid : (rule : Rule) → Valid (setTo rule .door)
-unfolding setTo accepted
-set-valid rule = cond-case (λ (s : Set). Valid (s .door)) (accepted rule) (λ e. idle-valid rule e) (λ e. idle-valid (One 1) refl)
+-- a rule that makes a door can be set, and the door is idle
+pub made : (rule : Rule) (door : Door) → setTo rule ≡ Made door → (accepted rule ≡ true) × (door ≡ idle rule)
+unfolding setTo
+made rule door e = go (accepted rule) e
+  where
+    go : (a : Bool) → cond a (Made (idle rule)) (Refused 22) ≡ Made door → (a ≡ true) × (door ≡ idle rule)
+    go true p = (refl, cc)
+    go false p = let z : _≡_ {A = ℕ} 0 1 = cc in (cc, cc)
+
+pub made-valid : (rule : Rule) (door : Door) → setTo rule ≡ Made door → Valid door
+made-valid rule door e = rw (made rule door e .1) (idle-valid rule (made rule door e .0))
 
 -- a cycle that is not refused
 pub on-time : (d : Door) (cycle : ℕ) → eqb (late d cycle) 0 ≡ true → (d .latest .0 ≤ cycle) × (cycle < 2 ^ 62)
@@ -88,5 +97,5 @@ edged-valid d cycle v =
     cond-case Valid (eqb (late d cycle) 0) (λ e. taken-valid d cycle v (on-time d cycle e .0) (on-time d cycle e .1)) (λ e. v)
 
 -- what is the definition's is valid as that is
-pub as-defined : {A : Type 0} (door : A → Door) {r x : A} → r ≡ x → Valid (door x) → (r ≡ x) × Valid (door r)
-as-defined door e v = (e, rw e v)
+pub as-defined : {r x : Edged} → r ≡ x → Valid (x .door) → (r ≡ x) × Valid (r .door)
+as-defined e v = (e, rw e v)

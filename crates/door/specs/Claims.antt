@@ -7,9 +7,11 @@ use lib.Dec.{eqb}
 use Rattle.door.specs.declared.Rule.{Rule}
 use Rattle.door.specs.declared.Rule.the-variants.{One, Two}
 use Rattle.door.specs.declared.Door.{Door}
+use Rattle.door.specs.declared.Set.{Set}
+use Rattle.door.specs.declared.Set.the-variants.{Refused, Made}
 use Rattle.door.specs.declared.Due.{Due}
 use Rattle.door.specs.declared.Due.the-variants.{At, Nothing}
-use Rattle.door.specs.Door.{accepted, begins, setTo, late, edged, closeOf, Valid}
+use Rattle.door.specs.Door.{idle, begins, setTo, numberOf, late, edged, closeOf, Valid}
 
 -- the door after a list of edges, each taken or refused
 unfoldable pub after : Door → List ℕ → Door
@@ -21,9 +23,13 @@ unfoldable pub numbers : Door → List ℕ → List ℕ
 numbers d [] = []
 numbers d (edge ∷ edges) = edged d edge .number ∷ numbers (edged d edge .door) edges
 
+-- a rule that can be set, and the door that setting it hands out
+abbrev pub Makes : Rule → Door → Type 0
+Makes rule door = setTo rule ≡ Made door
+
 -- Kept: whatever rule was set, and whatever edges came, the door is as the calls ask it
 abbrev pub Kept : Type 0
-Kept = (rule : Rule) (edges : List ℕ) → Valid (after (setTo rule .door) edges)
+Kept = (rule : Rule) (door : Door) → Makes rule door → (edges : List ℕ) → Valid (after door edges)
 
 -- an edge that begins a hold: it is accepted, and the very first or at or after due
 abbrev pub beginsHold : Door → ℕ → Bool
@@ -48,7 +54,7 @@ pub record CappedBy (cap : ℕ) (door : Door) : Type 0 where
 
 -- Capped: for every rule two that can be set
 abbrev pub Capped : Type 0
-Capped = (hold quiet cap : ℕ) → accepted (Two hold quiet cap) ≡ true → CappedBy cap (setTo (Two hold quiet cap) .door)
+Capped = (hold quiet cap : ℕ) (door : Door) → Makes (Two hold quiet cap) door → CappedBy cap door
 
 -- the close is due under both rules, or under none, and under rule two no later than under rule one
 abbrev pub NotAfter : Due → Due → Type 0
@@ -64,9 +70,9 @@ pub record NoLaterThan (one two : Door) (edges : List ℕ) : Type 0 where
   -- after them rule two's due is not after rule one's
   pub due : NotAfter (closeOf (after two edges)) (closeOf (after one edges))
 
--- NoLater: for every rule two that can be set, beside rule one with the same hold, after any edges
+-- NoLater: for every rule two that can be set, rule one with the same hold can be set too, and after any edges it is so
 abbrev pub NoLater : Type 0
-NoLater = (hold quiet cap : ℕ) → accepted (Two hold quiet cap) ≡ true → (edges : List ℕ) → NoLaterThan (setTo (One hold) .door) (setTo (Two hold quiet cap) .door) edges
+NoLater = (hold quiet cap : ℕ) (two : Door) → Makes (Two hold quiet cap) two → Makes (One hold) (idle (One hold)) × ((edges : List ℕ) → NoLaterThan (idle (One hold)) two edges)
 
 -- ---- readings
 
@@ -95,10 +101,15 @@ unfoldable pub played : Door → List Step → List Step
 played d [] = []
 played d (s ∷ ss) = record { edge = s .edge; number = edged d (s .edge) .number; due = closeOf (edged d (s .edge) .door) } ∷ played (edged d (s .edge) .door) ss
 
+-- the edges of a rule; a refused one has no door to take them
+unfoldable pub begun : Set → List Step → List Step
+begun (Refused n) ss = []
+begun (Made d) ss = played d ss
+
 -- every reading, as the definitions answer it
 unfoldable pub replayed : List Reading → List Reading
 replayed [] = []
-replayed (r ∷ rs) = record { rule = r .rule; number = setTo (r .rule) .number; steps = played (setTo (r .rule) .door) (r .steps) } ∷ replayed rs
+replayed (r ∷ rs) = record { rule = r .rule; number = numberOf (setTo (r .rule)); steps = begun (setTo (r .rule)) (r .steps) } ∷ replayed rs
 
 -- rules one and two with the same edges, of which 250 is at due; quiet but for one (56) and exactly passed (57, 206), before due (256) and at it (257); refusals
 abbrev pub readings : List Reading
@@ -109,7 +120,7 @@ readings =
     ∷ record { rule = Two 100 50 250; number = 0; steps = refuses (2 ^ 62) 2 Nothing ∷ takes 10 110 ∷ refuses 9 3 (At (record { 0 = 110 })) ∷ takes (2 ^ 62 - 1) (2 ^ 62 + 99) ∷ [] }
     ∷ record { rule = Two (2 ^ 40) (2 ^ 40) (2 ^ 40); number = 0; steps = takes 1 (2 ^ 40 + 1) ∷ [] }
     ∷ record { rule = One 0; number = 22; steps = [] }
-    ∷ record { rule = One (2 ^ 40 + 1); number = 22; steps = takes 5 6 ∷ [] }
+    ∷ record { rule = One (2 ^ 40 + 1); number = 22; steps = [] }
     ∷ record { rule = Two 100 0 250; number = 22; steps = [] }
     ∷ record { rule = Two 100 50 99; number = 22; steps = [] }
     ∷ []

@@ -8,6 +8,7 @@ use Rattle.door.specs.declared.Rule.{Rule}
 use Rattle.door.specs.declared.Rule.the-variants.{One, Two}
 use Rattle.door.specs.declared.Door.{Door}
 use Rattle.door.specs.declared.Set.{Set}
+use Rattle.door.specs.declared.Set.the-variants.{Refused, Made}
 use Rattle.door.specs.declared.Edged.{Edged}
 use Rattle.door.specs.declared.Due.{Due}
 use Rattle.door.specs.declared.Due.the-variants.{At, Nothing}
@@ -75,9 +76,14 @@ edgeTaken d cycle =
     (cond (rearms (d .rule) (cycle - d .rearmed .0)) (heldFrom (d .rule) (d .first .0) cycle)
     (passedAt d cycle))
 
--- a rule set, or refused with 22 beside a door of the least rule
+-- a rule set, or refused with 22: "a refusal returns its number only" (01, "Calls turned away")
 unfoldable pub setTo : Rule → Set
-setTo rule = cond (accepted rule) (record { number = 0; door = idle rule }) (record { number = 22; door = idle (One 1) })
+setTo rule = cond (accepted rule) (Made (idle rule)) (Refused 22)
+
+-- the number that setting a rule answers; 0 for none
+abbrev pub numberOf : Set → ℕ
+numberOf (Refused n) = n
+numberOf (Made d) = 0
 
 -- 01's cycle refusals (01, "Calls turned away"), 2 over 2^62 − 1 and 3 below the latest accepted; 0 for none
 unfoldable pub late : Door → ℕ → ℕ
@@ -98,3 +104,8 @@ pub record Valid (d : Door) : Type 0 where
   pub rearmed : d .rearmed .0 ≤ d .latest .0
   pub latest : d .latest .0 < 2 ^ 62
   pub due : d .holding ≡ true → d .due .0 ≡ dueUnder (d .rule) (d .first .0) (d .rearmed .0)
+
+-- a door that is handed out is as the calls ask it
+abbrev pub SetValid : Set → Type 0
+SetValid (Refused n) = Unit {0}
+SetValid (Made d) = Valid d

@@ -4,7 +4,7 @@ use time::units::Cycle;
 ghost use Prim.Native.Nat.{_≤_, _<_, _^_, min};
 ghost use mathlib.Core.Bool.{true};
 ghost use mathlib.Core.Path.{_≡_};
-ghost use Rattle.door.specs.Door.{inRange, accepted, rearms, dueUnder, idle, heldFrom, begins, edgeTaken, setTo, edged, closeOf, Valid};
+ghost use Rattle.door.specs.Door.{inRange, accepted, rearms, dueUnder, idle, heldFrom, begins, edgeTaken, setTo, edged, closeOf, Valid, SetValid};
 
 // The longest hold, quiet time and cap, 2^40 cycles.
 const LONGEST: u64 = 0x100_0000_0000;
@@ -25,10 +25,10 @@ pub struct Door {
     latest: Cycle,
 }
 
-// What `set` answers: 0, or 22 beside a door of the least rule.
-pub struct Set {
-    pub number: u8,
-    pub door: Door,
+// What `set` answers: the number 22 alone, or a door.
+pub enum Set {
+    Refused(u8),
+    Made(Door),
 }
 
 // What `edge` answers: 0, or 2 or 3 beside the door as it was.
@@ -145,20 +145,15 @@ impl Door {
         door
     }
 
-    // Sets a rule: no edge, latest cycle 0 and nothing due. A refused rule leaves a door of the least one.
+    // Sets a rule: no edge, latest cycle 0 and nothing due.
     pub fn set(rule: Rule) -> Set
-        ensures { λ r. ⌜ (r ≡ setTo rule) × Valid (r .door) ⌝ }
+        ensures { λ r. ⌜ (r ≡ setTo rule) × SetValid r ⌝ }
     {
+        let door = Door::idle(rule);
         if rule.accepted() {
-            return Set {
-                number: 0,
-                door: Door::idle(rule),
-            };
+            return Set::Made(door);
         }
-        Set {
-            number: 22,
-            door: Door::idle(Rule::One { hold: 1 }),
-        }
+        Set::Refused(22)
     }
 
     // Takes a contact edge. A refused one changes nothing.

@@ -5,7 +5,7 @@ mod adding;
 mod releasing;
 
 ghost use mathlib.Core.Path.{_≡_};
-ghost use Rattle.log.specs.Log.{empty, Valid};
+ghost use Rattle.log.specs.Log.{empty, placeOf, Valid};
 
 // How many records are held at most, and the bytes of the area that they lie in.
 pub const PLACES: usize = 6000;
@@ -31,5 +31,22 @@ impl Ring {
         ensures { λ r. ⌜ (r ≡ empty) × Valid r ⌝ }
     {
         Ring { next: 0, held: 0 }
+    }
+
+    // How many records are held: as many may be released.
+    pub fn count(self) -> usize
+        ensures { λ r. ⌜ r ≡ self .held ⌝ }
+    {
+        self.held
+    }
+
+    // The place of the oldest record held, from which it is read; where none is held, that of the next.
+    pub fn oldest(self) -> usize
+        requires { ⌜ Valid self ⌝ }
+        ensures { λ r. ⌜ r ≡ placeOf self 0 ⌝ }
+    {
+        let next = self.next;
+        let held = self.held;
+        (next + (PLACES - held)) % PLACES
     }
 }

@@ -1,7 +1,6 @@
 use mathlib.Core.Path.{_≡_, refl, sym, _∙_}
 use Rattle.door.proofs.Doors.{edged-valid, on-time, as-defined}
 use Rattle.door.specs.Door.{edged, late}
-use Rattle.door.specs.declared.Edged.{Edged}
 use borrow.Author.Tests.{ne-eqb}
 use borrow.Author.Needs.{needs}
 use Rattle.door.proofs.Door.edge.Statement.{statement}
@@ -23,7 +22,7 @@ returns-2 : tie.Need-returns-2
 unfolding edged late
 returns-2 c =
     let start = c .before .before .before .before in
-    as-defined (λ (x : Edged). x .door)
+    as-defined
     (simp (← c .before .before .refusal .ensures, c .before .if1 .left, c .taken .ensures))
     (edged-valid (start .args .self) (start .args .cycle .0) (start .pre))
 
