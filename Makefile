@@ -1,5 +1,6 @@
 # make run                                        the door story of examples/, answered by the bench program
 # make run SCRIPT=my.script                       a script of your own
+# make soak DIR=scripts [CORES=2]                 every script of a folder, on all cores
 # make test                                       the gate: proofs, wrong programs refused, programs run
 # make oracle MCS=../MCS                          the Rust as judge; MCS is a checkout of GabePurc/MCS at fb281a0906
 # make oracle MCS=../MCS CALLS=10000000 SEED=7    a longer comparison, from another seed
@@ -8,6 +9,8 @@
 # make speed MCS=../MCS                           the timer beside the Rust, in nanoseconds and instructions
 
 SCRIPT ?= examples/door.script
+DIR ?=
+CORES ?= $(shell nproc)
 MCS ?=
 CALLS ?= 300000
 SEED ?= 1
@@ -16,13 +19,17 @@ ORACLE := oracle/target/release
 
 CARGO := MCS="$(abspath $(MCS))" cargo
 
-.PHONY: run test oracle against-bench library bindings speed
+.PHONY: run soak test oracle against-bench library bindings speed
 .DELETE_ON_ERROR:
 
 # Each command of the script with its answer under it; the story's answers are held to those that are stored.
 run:
 	$(if $(shell test -f "$(SCRIPT)" && test -r "$(SCRIPT)" && echo yes),,$(error run: there is no script $(SCRIPT) that can be read))
 	@examples/run.sh "$(SCRIPT)"
+
+soak:
+	$(if $(shell test -d "$(DIR)" && echo yes),,$(error soak: name a folder of scripts, as in: make soak DIR=scripts))
+	@examples/soak.sh "$(DIR)" "$(CORES)"
 
 test:
 	bash .ci/run
