@@ -43,7 +43,7 @@ enum pm_kind {
 /* kind: an enum pm_kind; the other fields are read where the call has such an argument. */
 struct pm_asked { uint8_t kind, pin, value; uint16_t address; uint64_t cycle; };
 
-enum pm_what { PM_NOTHING, PM_BYTE, PM_EVENT_AT, PM_NO_EVENT, PM_PAUSED_AT };
+enum pm_what { PM_NOTHING, PM_BYTE, PM_EVENT_AT, PM_NO_EVENT, PM_PAUSED_AT, PM_REFUSED };
 
 /* number: 0, or the refusal's, 255 for a kind that names no call; what: an enum pm_what. */
 struct pm_reply { uint8_t number, what; uint64_t value, written; };

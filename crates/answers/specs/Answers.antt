@@ -14,8 +14,9 @@ use Rattle.answers.specs.declared.Answer.{Answer}
 use Rattle.answers.specs.declared.Answer.the-variants as answer
 use Rattle.answers.specs.declared.Outcome.{Outcome}
 
--- the values that an accepted call answers
+-- the values that a call answers; a refusal has a case of its own, so that it is none of an accepted call's
 pub data Values : Type 0 where
+  refused : Values
   none : Values
   byte : ℕ → Values
   event : Next → Values
@@ -31,7 +32,7 @@ pub record Told : Type 0 where
 
 -- a refusal returns its number only, and leaves timer and area as they were
 abbrev pub turned : ℕ → Timer → List ℕ → Told
-turned n t area = record { timer = t; number = n; values = none; written = 0; area = area }
+turned n t area = record { timer = t; number = n; values = refused; written = 0; area = area }
 
 -- every call writes its records from the start of the area and leaves the rest as it was
 abbrev pub given : Timer → Values → List ℕ → List ℕ → Told
@@ -51,11 +52,23 @@ numberOf (answer.Paused c) = 0
 
 -- the values of each case of the code's answer
 abbrev pub valuesOf : Answer → Values
-valuesOf (answer.Refused n) = none
+valuesOf (answer.Refused n) = refused
 valuesOf answer.Done = none
 valuesOf (answer.Value v) = byte v
 valuesOf (answer.Next n) = event n
 valuesOf (answer.Paused c) = paused (c .0)
+
+-- the answer that a number and values say
+abbrev pub answerOf : ℕ → Values → Answer
+answerOf n refused = answer.Refused n
+answerOf n none = answer.Done
+answerOf n (byte v) = answer.Value v
+answerOf n (event e) = answer.Next e
+answerOf n (paused c) = answer.Paused (record { 0 = c })
+
+-- Determined: number and values determine the answer, its case too
+abbrev pub Determined : Type 0
+Determined = (a : Answer) → answerOf (numberOf a) (valuesOf a) ≡ a
 
 -- what the code's outcome says, and every byte of the area; the timer that comes out is valid
 pub record Tells (x : Told) (r : Outcome) (after : List ℕ) : Type 0 where

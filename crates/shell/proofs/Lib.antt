@@ -1,3 +1,4 @@
+pub mod Histories
 pub mod Past
 pub mod Replied
 pub mod Shape

@@ -15,7 +15,7 @@ use Rattle.shell.specs.declared.asked.Wanted.the-variants as wanted
 use Rattle.shell.specs.declared.exports.Begun.{Begun}
 use Rattle.shell.specs.declared.exports.Shape.{Shape}
 use Rattle.shell.specs.declared.exports.Stepped.{Stepped}
-use Rattle.answers.specs.Answers.{Values, none, byte, event, paused, Told, turned, numberOf, valuesOf}
+use Rattle.answers.specs.Answers.{Values, refused, none, byte, event, paused, Told, turned, numberOf, valuesOf}
 use Rattle.timer.specs.Calls.{answered}
 use Rattle.answers.specs.declared.Outcome.{Outcome}
 use Rattle.timer.specs.declared.calls.Call.{Call}
@@ -40,8 +40,9 @@ callOf q = known (calls q) (q .kind)
 
 -- ---- answers
 
--- 0 no value, 1 a byte, 2 the next event, 3 none to come, 4 a sync cycle
+-- 0 no value, 1 a byte, 2 the next event, 3 none to come, 4 a sync cycle, 5 a refusal
 abbrev pub whatOf : Values → ℕ
+whatOf refused = 5
 whatOf none = 0
 whatOf (byte v) = 1
 whatOf (event (next.At c)) = 2
@@ -49,6 +50,7 @@ whatOf (event next.Never) = 3
 whatOf (paused c) = 4
 
 abbrev pub valueOf : Values → ℕ
+valueOf refused = 0
 valueOf none = 0
 valueOf (byte v) = v
 valueOf (event (next.At c)) = c .0

@@ -19,7 +19,7 @@ pub struct Asked {
 }
 
 // number is the refusal's, 0 for none. what is 0 for no value, 1 for a byte, 2 for the next event's cycle, 3 for none to
-// come, 4 for the sync cycle of an advance that stopped; value has it. written counts the area's bytes.
+// come, 4 for the sync cycle of an advance that stopped, 5 for a refusal; value has it. written counts the area's bytes.
 #[repr(C)]
 pub struct Reply {
     pub number: u8,
@@ -84,7 +84,7 @@ impl Reply {
         let answer = o.answer;
         let written = o.written;
         match answer {
-            Answer::Refused(n) => Reply::new(n, 0, 0, written),
+            Answer::Refused(n) => Reply::new(n, 5, 0, written),
             Answer::Done => Reply::new(0, 0, 0, written),
             Answer::Value(v) => Reply::new(0, 1, v as u64, written),
             Answer::Next(n) => match n {

@@ -7,5 +7,4 @@ pub mod Quiet
 pub mod Held
 pub mod Progress
 pub mod Origin
-pub mod Histories
 pub mod Readings

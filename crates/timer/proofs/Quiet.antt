@@ -1,14 +1,71 @@
 -- Before the announced next event a tick only steps the count and lifts a blocked match.
-use mathlib.Core.Path.{_∙_}
+use Prim.Native.Nat.{ℕ, suc, _+_, _<_}
+use native.Mathlib.Omega.{arith}
+use mathlib.Core.Path.{_≡_, refl, sym, _∙_}
+use mathlib.Core.Bool.{Bool, true, false, cond}
+use mathlib.Core.List.{List}
+use lib.Dec.{eqb, leb, leb·zero}
+use borrow.Author.Tests.{leb-true, leb-false}
+use Rattle.records.specs.Records.{recordsOf}
+use Rattle.counter.specs.declared.next.Next.{Next}
+use Rattle.counter.specs.declared.next.Next.the-variants.{At, Never}
+use Rattle.counter.specs.declared.state.Timer.{Timer}
+use Rattle.time.specs.declared.units.Cycle.{Cycle}
+use Rattle.wave.specs.Distance.{gap}
+use Rattle.time.specs.Units.{ticksAt}
+use Rattle.time.proofs.Clocks.{cycle-mono}
+use Rattle.counter.specs.Modes.{modeOf, waveOf, prescalerOf, runningOf}
+use Rattle.counter.specs.Next.{nextAt, nextOf}
 use Rattle.counter.specs.Setting.{settingAt}
+use Rattle.passage.specs.Passage.{ticks}
 use Rattle.counter.proofs.Bounds.{valid-sound}
 use Rattle.tick.proofs.Still.{tick-still, still-at, linear-suc}
-use Rattle.timer.specs.Claims.{Quiet}
+use Rattle.answers.specs.Answers.{event, Told, turned}
+use Rattle.timer.specs.declared.calls.Call.the-variants as call
+use Rattle.timer.specs.Calls.{asks, works, says, before, worked, performed, refusalOf, answered}
+use Rattle.timer.specs.Claims.{told, tickCycle, Quiet}
 use Rattle.counter.proofs.Keeps.{fresh-is-valid}
 use Rattle.timer.proofs.Keeps.{last-valid}
 
+-- what next answers is the timer's next event
+says-next : (t : Timer) (cycle : ℕ) (area : List ℕ) → performed ticks t call.Next cycle area .values ≡ event (nextOf t)
+unfolding performed asks before worked works says recordsOf
+says-next t cycle area = simp leb·zero
+
+pub next-told : (t : Timer) (cycle : ℕ) (area : List ℕ) {m : Next} → told ticks t (record { call = call.Next; cycle = cycle; area = area }) .values ≡ event m → m ≡ nextOf t
+unfolding answered
+next-told t cycle area {m} h = go (eqb (refusalOf t call.Next cycle) 0) h
+  where
+    go : (b : Bool) → cond b (performed ticks t call.Next cycle area) (turned (refusalOf t call.Next cycle) t area) .values ≡ event m → m ≡ nextOf t
+    go true e = let z = sym (says-next t cycle area) ∙ e in cc
+    go false e = absurd (let z : _≡_ {A = ℕ} 0 1 = cc in omega arith)
+
+-- and its cycle the announced one
+announced-at : (t : Timer) {at : Cycle} → At at ≡ nextOf t → at .0 ≡ nextAt t
+unfolding nextOf
+announced-at t {at} h = go (runningOf t) h
+  where
+    go : (b : Bool) → At at ≡ cond b (At (record { 0 = nextAt t })) Never → at .0 ≡ nextAt t
+    go true e = let z : at ≡ record { 0 = nextAt t } = cc in rw z
+    go false e = absurd (let z : _≡_ {A = ℕ} 0 1 = cc in omega arith)
+
+-- a tick before that cycle is one of the quiet ones
+below : (t : Timer) (n : ℕ) → tickCycle t (suc n) < nextAt t → n < gap (waveOf t (modeOf t)) (t .counter) (t .ocr)
+unfolding nextAt
+below t n h = go (leb g n) refl
+  where
+    g : ℕ
+    g = gap (waveOf t (modeOf t)) (t .counter) (t .ocr)
+
+    go : (b : Bool) → leb g n ≡ b → n < g
+    go true e =
+        let k = leb-true g n e in
+        let m = cycle-mono (prescalerOf t) (ticksAt (prescalerOf t) (t .clock .sync .0) + (g + 1)) (ticksAt (prescalerOf t) (t .clock .sync .0) + suc n) (omega arith) in
+        absurd (omega arith)
+    go false e = leb-false g n e
+
 pub quiet : Quiet
 unfolding settingAt
-quiet c e qs n h =
+quiet c e qs cycle area at n h l =
     let v = valid-sound _ (last-valid _ qs (fresh-is-valid c e)) in
-    tick-still _ _ (still-at _ _ (v .steady) n h) ∙ simp linear-suc
+    tick-still _ _ (still-at _ _ (v .steady) n (below _ n (rw (announced-at _ (next-told _ cycle area h)) at l))) ∙ simp linear-suc

@@ -7,20 +7,21 @@ use lib.Dec.{eqb}
 use lib.ListN.{length}
 use Rattle.config.specs.declared.Config.{Config}
 use Rattle.config.specs.Config.{accepted}
+use Rattle.counter.specs.declared.next.Next.the-variants.{At}
 use Rattle.counter.specs.declared.state.Timer.{Timer}
+use Rattle.time.specs.declared.units.Cycle.{Cycle}
+use Rattle.time.specs.Units.{ticksAt, cycleAt}
 use Rattle.tick.specs.Tick.{tick}
-use Rattle.wave.specs.Distance.{gap}
 use Rattle.tick.specs.Skip.{linear}
 use Rattle.counter.specs.Next.{nextAt}
 use Rattle.counter.specs.Fresh.{freshOf}
-use Rattle.counter.specs.Modes.{modeOf, waveOf, runningOf}
+use Rattle.counter.specs.Modes.{modeOf, waveOf, prescalerOf, runningOf}
 use Rattle.passage.specs.Passage.{Passage, ticks, events}
 use Rattle.counter.specs.Setting.{settingOf, movingOf}
 use Rattle.counter.specs.Valid.{Valid}
 use Rattle.timer.specs.declared.calls.Call.{Call}
 use Rattle.timer.specs.declared.calls.Call.the-variants as call
-use Rattle.answers.specs.declared.Outcome.{Outcome}
-use Rattle.answers.specs.Answers.{Told, Tells, numberOf, valuesOf}
+use Rattle.answers.specs.Answers.{event, Told}
 use Rattle.timer.specs.Calls.{answered, placed, prescales, refusalOf}
 
 -- a call with its cycle and its area
@@ -43,10 +44,6 @@ unfoldable pub last : Passage → Timer → List Request → Timer
 last p t [] = t
 last p t (q ∷ qs) = last p (told p t q .timer) qs
 
--- what the code's outcome and the area after it say, in 01's terms
-abbrev pub heard : Outcome → List ℕ → Told
-heard r after = record { timer = r .timer; number = numberOf (r .answer); values = valuesOf (r .answer); written = r .written; area = after }
-
 -- Demand 1, what the calls keep: every call leaves a valid timer valid (the fresh timer of an accepted configuration is: `FreshIsValid` of counter)
 abbrev pub CallKeeps : Type 0
 CallKeeps = (t : Timer) (q : Request) → Valid t → Valid (told ticks t q .timer)
@@ -60,20 +57,6 @@ pub record Same (t : Timer) (qs : List Request) : Type 0 where
 -- one theorem over the list
 abbrev pub Alike : Type 0
 Alike = (c : Config) → accepted c ≡ true → (qs : List Request) → Same (freshOf c) qs
-
--- a history of the public functions: each on the timer as the one before gave it back, each with its promise
-pub data History : Timer → List Request → List Told → Timer → Type 0 where
-  nothing : (t : Timer) → History t [] [] t
-  called : (t : Timer) (q : Request) (r : Outcome) (after : List ℕ) (qs : List Request) (xs : List Told) (u : Timer) → Tells (told ticks t q) r after → History (r .timer) qs xs u → History t (q ∷ qs) (heard r after ∷ xs) u
-
--- The code is that run: what a history of the public functions gave is what the counter that skips gives, outcome by outcome
-pub record Heard (c : Config) (qs : List Request) (xs : List Told) (u : Timer) : Type 0 where
-  pub outcomes : xs ≡ outcomes events (freshOf c) qs
-  pub last : u ≡ last events (freshOf c) qs
-
--- for every history from a fresh timer
-abbrev pub CodeIsRun : Type 0
-CodeIsRun = (c : Config) → accepted c ≡ true → (qs : List Request) (xs : List Told) (u : Timer) → History (freshOf c) qs xs u → Heard c qs xs u
 
 -- Held: after any list, a counter held by sleep, power reduction or TSM has its count moved only by a TCNT write or a reset
 unfoldable pub setsCount : Timer → Call → Bool
@@ -101,11 +84,16 @@ abbrev pub Held : Type 0
 Held = (c : Config) → accepted c ≡ true → (qs : List Request) (q : Request) → let t = last ticks (freshOf c) qs in
     t .halts .asleep || t .halts .reduced || t .halts .tsm ≡ true → setsCount t (q .call) ≡ false → told ticks t q .timer .counter .count ≡ t .counter .count
 
--- Quiet: after any list, a prescaled tick before the announced next event only steps the count and lifts a blocked match
+-- the cycle of the n-th prescaled tick after the sync cycle
+abbrev pub tickCycle : Timer → ℕ → ℕ
+tickCycle t n = cycleAt (prescalerOf t) (ticksAt (prescalerOf t) (t .clock .sync .0) + n)
+
+-- Quiet: after any list, a prescaled tick whose cycle lies before the cycle that next answers only steps the count and lifts a blocked match
 abbrev pub Quiet : Type 0
-Quiet = (c : Config) → accepted c ≡ true → (qs : List Request) (n : ℕ) → let t = last ticks (freshOf c) qs in
+Quiet = (c : Config) → accepted c ≡ true → (qs : List Request) (cycle : ℕ) (area : List ℕ) (at : Cycle) (n : ℕ) → let t = last ticks (freshOf c) qs in
     let w = waveOf t (modeOf t) in
-    n < gap w (t .counter) (t .ocr) → tick (settingOf t) (linear w n (movingOf t)) ≡ record { moving = linear w (suc n) (movingOf t); log = [] }
+    told ticks t (record { call = call.Next; cycle = cycle; area = area }) .values ≡ event (At at) → tickCycle t (suc n) < at .0
+    → tick (settingOf t) (linear w n (movingOf t)) ≡ record { moving = linear w (suc n) (movingOf t); log = [] }
 
 -- Progress: an area of 110 bytes always gets one event tick done
 abbrev pub Progress : Type 0

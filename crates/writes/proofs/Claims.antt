@@ -1,10 +1,9 @@
 -- The claims of specs/Claims.antt.
-use Prim.Native.Nat.{ℕ, zero, suc, _+_, _/_}
+use Prim.Native.Nat.{ℕ, _+_, _/_}
 use native.Mathlib.Omega.{arith}
 use mathlib.Core.Path.{_≡_, refl, sym, ap, _∙_}
-use mathlib.Core.Bool.{Bool, true, false, cond, not, _||_}
+use mathlib.Core.Bool.{Bool, true, false, cond}
 use mathlib.Core.List.{List, [], _∷_, _++_, append-nil}
-use lib.Dec.{eqb, eqb·suc-zero}
 use lib.ListN.{length, take, drop}
 use lib.Seq.{drop-at, drop-drop}
 use Rattle.counter.specs.declared.state.Timer.{Timer}
@@ -20,8 +19,8 @@ use Rattle.timer.proofs.Alike.{told-alike}
 use Rattle.timer.proofs.Keeps.{call-keeps}
 use Rattle.writes.specs.declared.items.Item.{Item}
 use Rattle.writes.specs.Items.{itemsIn}
-use Rattle.writes.specs.Writes.{pauses, stopping, behind, wrote, worked, Listed, after, listed, listing}
-use Rattle.writes.specs.Claims.{ListsAlike, EmptyList, singles, requests, recordsIn, going, numberIn, AsSingles, Matches, SingleCalls}
+use Rattle.writes.specs.Writes.{stopping, behind, wrote, worked, Listed, after, listed, listing}
+use Rattle.writes.specs.Claims.{ListsAlike, EmptyList, singles, requests, recordsIn, going, numberIn, valuesIn, AsSingles, Matches, SingleCalls}
 use Rattle.writes.proofs.Rests.{answered-all, answered-within}
 use Rattle.writes.proofs.Lists.{take-after, after-after, left-after}
 
@@ -44,7 +43,7 @@ unfolding worked wrote
 worked-keeps t i area v =
     let a = answered ticks t call.Advance (i .cycle .0) area in
     let k = calls-keep t call.Advance (i .cycle .0) area v in
-    cond-all Lasting (stopping (a .number) (a .values)) (record { valid = k })
+    cond-all Lasting (stopping (a .values)) (record { valid = k })
     (record { valid = calls-keep (a .timer) (call.Write (i .address) (i .value)) (i .cycle .0) (drop (a .written) (a .area)) k }) .valid
 
 listed-alike : (t : Timer) (is : List Item) (area : List ℕ) → Valid t → listed events t is area ≡ listed ticks t is area
@@ -73,35 +72,24 @@ told-leaves p t q =
     answered-all (Leaving (q .area)) p t (q .call) (q .cycle) (q .area)
     (λ u v bytes. record { rest = drop-at bytes (drop (length bytes) (q .area)) (length bytes) refl }) (λ n u. record { rest = refl })
 
-itself : (n : ℕ) → n ≡ cond (eqb n 0) 0 n
-itself zero = refl
-itself (suc n) = rw (eqb·suc-zero n)
-
--- a call alone
-alone : (p : Passage) (t : Timer) (q : Request) → AsSingles p t (q ∷ []) (q .area) (told p t q)
-unfolding outcomes last recordsIn numberIn
-alone p t q =
-    record { timer = refl; number = itself (told p t q .number); records = sym (append-nil (take (told p t q .written) (told p t q .area))); rest = told-leaves p t q .rest }
-
-accepted : (b : Bool) (n : ℕ) → b || not (eqb n 0) ≡ false → eqb n 0 ≡ true
-accepted true n e = cc
-accepted false n e = go (eqb n 0) e
-  where
-    go : (d : Bool) → not d ≡ false → d ≡ true
-    go true h = refl
-    go false h = sym h
+-- a call that stops, alone
+alone : (p : Passage) (t : Timer) (q : Request) → stopping (told p t q .values) ≡ true → AsSingles p t (q ∷ []) (q .area) (told p t q)
+unfolding outcomes last recordsIn numberIn valuesIn
+alone p t q e =
+    record { timer = refl; number = rw e; values = rw e; records = sym (append-nil (take (told p t q .written) (told p t q .area))); rest = told-leaves p t q .rest }
 
 -- a call that does not stop, and the rest in what it leaves
-joined : (p : Passage) (t : Timer) (q : Request) (qs : List Request) (y : Told) → stopping (told p t q .number) (told p t q .values) ≡ false
+joined : (p : Passage) (t : Timer) (q : Request) (qs : List Request) (y : Told) → stopping (told p t q .values) ≡ false
     → AsSingles p (told p t q .timer) qs (drop (told p t q .written) (told p t q .area)) y
     → AsSingles p t (q ∷ qs) (q .area) (behind (told p t q .written) (told p t q .area) y)
-unfolding outcomes last recordsIn numberIn
+unfolding outcomes last recordsIn numberIn valuesIn
 joined p t q qs y e g =
     let x = told p t q in
     let w = answered-within p t (q .call) (q .cycle) (q .area) .upto in
     record {
       timer = g .timer;
-      number = rw (accepted (pauses (x .values)) (x .number) e) (g .number);
+      number = rw e (g .number);
+      values = rw e (g .values);
       records = take-after (x .written) (y .written) (x .area) (y .area) w ∙ ap (λ (l : List ℕ). take (x .written) (x .area) ++ l) (g .records);
       rest = left-after (x .written) (y .written) (x .area) (y .area) w ∙ g .rest ∙ ap (drop (y .written)) (told-leaves p t q .rest) ∙ drop-drop (y .written) (x .written) (q .area);
     }
@@ -123,21 +111,21 @@ module _ (p : Passage) (t : Timer) (i : Item) (is : List Item) (area : List ℕ)
   unfoldable Item-matches : Type 0
   Item-matches = Matches p t (requests p t (singles (i ∷ is)) area) area (listed p t (i ∷ is) area)
 
-  advance-stops : stopping (moved-to .number) (moved-to .values) ≡ true → Item-matches
+  advance-stops : stopping (moved-to .values) ≡ true → Item-matches
   unfolding Item-matches requests singles listed worked wrote outcomes going
   advance-stops e =
       let w : worked p t i area ≡ moved-to = rw e in
       let l : listed p t (i ∷ is) area ≡ record { done = 0; told = moved-to } = rw (w, e) in
       let q : requests p t (singles (i ∷ is)) area ≡ moving ∷ [] = rw e in
-      rw (l, q) (record { told = alone p t moving; done = rw e })
+      rw (l, q) (record { told = alone p t moving e; done = rw e })
 
-  write-stops : stopping (moved-to .number) (moved-to .values) ≡ false → stopping (written-to .number) (written-to .values) ≡ true → Item-matches
+  write-stops : stopping (moved-to .values) ≡ false → stopping (written-to .values) ≡ true → Item-matches
   unfolding Item-matches requests singles listed worked wrote outcomes going
   write-stops e f =
       let w : worked p t i area ≡ behind (moved-to .written) (moved-to .area) written-to = rw e in
       let l : listed p t (i ∷ is) area ≡ record { done = 0; told = behind (moved-to .written) (moved-to .area) written-to } = rw (w, f) in
       let q : requests p t (singles (i ∷ is)) area ≡ moving ∷ writing ∷ [] = rw (e, f) in
-      rw (l, q) (record { told = joined p t moving (writing ∷ []) written-to e (alone p (moved-to .timer) writing); done = rw (e, f) })
+      rw (l, q) (record { told = joined p t moving (writing ∷ []) written-to e (alone p (moved-to .timer) writing f); done = rw (e, f) })
 
   abbrev left-list : Listed
   left-list = listed p (written-to .timer) is (drop (written-to .written) (written-to .area))
@@ -145,7 +133,7 @@ module _ (p : Passage) (t : Timer) (i : Item) (is : List Item) (area : List ℕ)
   abbrev left-requests : List Request
   left-requests = requests p (written-to .timer) (singles is) (drop (written-to .written) (written-to .area))
 
-  neither-stops : stopping (moved-to .number) (moved-to .values) ≡ false → stopping (written-to .number) (written-to .values) ≡ false
+  neither-stops : stopping (moved-to .values) ≡ false → stopping (written-to .values) ≡ false
       → Matches p (written-to .timer) left-requests (drop (written-to .written) (written-to .area)) left-list → Item-matches
   unfolding Item-matches requests singles listed worked wrote outcomes going
   neither-stops e f g =
@@ -161,14 +149,14 @@ module _ (p : Passage) (t : Timer) (i : Item) (is : List Item) (area : List ℕ)
         done = rw (e, f, g .done) (omega arith);
       })
 
-  by-stops : (b : Bool) → stopping (moved-to .number) (moved-to .values) ≡ b → (d : Bool) → stopping (written-to .number) (written-to .values) ≡ d
+  by-stops : (b : Bool) → stopping (moved-to .values) ≡ b → (d : Bool) → stopping (written-to .values) ≡ d
       → Matches p (written-to .timer) left-requests (drop (written-to .written) (written-to .area)) left-list → Item-matches
   by-stops true e d f g = advance-stops e
   by-stops false e true f g = write-stops e f
   by-stops false e false f g = neither-stops e f g
 
 pub single-calls : SingleCalls
-unfolding Item-matches requests singles listed outcomes last recordsIn numberIn going
-single-calls p t [] area = record { told = record { timer = refl; number = refl; records = refl; rest = refl }; done = refl }
+unfolding Item-matches requests singles listed outcomes last recordsIn numberIn valuesIn going
+single-calls p t [] area = record { told = record { timer = refl; number = refl; values = refl; records = refl; rest = refl }; done = refl }
 single-calls p t (i ∷ is) area =
     by-stops p t i is area _ refl _ refl (single-calls p (written-to p t i is area .timer) is (drop (written-to p t i is area .written) (written-to p t i is area .area)))

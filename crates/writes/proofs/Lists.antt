@@ -15,11 +15,12 @@ use Rattle.answers.specs.declared.Answer.{Answer}
 use Rattle.answers.specs.declared.Answer.the-variants as answer
 use Rattle.answers.specs.declared.Outcome.{Outcome}
 use Rattle.answers.specs.Answers.{none, Tells, numberOf, valuesOf}
+use Rattle.answers.proofs.Determined.{determined}
 use Rattle.writes.specs.declared.items.Item.{Item}
 use Rattle.writes.specs.declared.Why.{Why}
 use Rattle.writes.specs.declared.Why.the-variants as why
 use Rattle.writes.specs.Items.{itemIn, itemsIn}
-use Rattle.writes.specs.Writes.{stopping, behind, worked, Listed, after, listed, listing, whyOf, answerOf, Lists}
+use Rattle.writes.specs.Writes.{stopping, behind, worked, Listed, after, listed, listing, whyOf, reasonOf, Lists}
 use Rattle.writes.proofs.Rests.{left, back, left-is, back-is, back-long, stop-told, put-behind, worked-within, inside-both}
 
 -- ---- behind what is done
@@ -69,7 +70,7 @@ begins t list area v =
 -- an item that does not stop
 pub goes-on : (t : Timer) (list before : List ℕ) (u : Timer) (done to : ℕ) (area : List ℕ) {i : Item} {o : Outcome} {part : List ℕ} {b : Bool}
     → Going t list before u done to area → done < count list → i ≡ itemIn (take 10 (drop (done * 10) list))
-    → Tells (worked ticks u i (left to area)) o part → b ≡ stopping (numberOf (o .answer)) (valuesOf (o .answer)) → b ≡ false → length part ≡ length (left to area)
+    → Tells (worked ticks u i (left to area)) o part → b ≡ stopping (valuesOf (o .answer)) → b ≡ false → length part ≡ length (left to area)
     → Going t list before (o .timer) (done + 1) (to + o .written) (back to area part)
 unfolding listed
 goes-on t list before u done to area {i} {o} {part} {b} g l e h s f k =
@@ -97,17 +98,17 @@ pub uneven : (t : Timer) (list area : List ℕ) → Valid t → (length list % 1
     → Lists (listing ticks t list area) (record { timer = t; done = 0; written = 0; why = why.Refused 12 }) area
 unfolding listing
 uneven t list area v h =
-    rw (ne-eqb (length list % 10) 0 h) (record { done = refl; told = record { timer = refl; number = refl; values = refl; written = refl; area = refl; valid = v } })
+    rw (ne-eqb (length list % 10) 0 h) (record { done = refl; why = refl; told = record { timer = refl; number = refl; values = refl; written = refl; area = refl; valid = v } })
 
 -- the number and the values of an answer that stops are those of the reason
-number-kept : (a : Answer) → numberOf (answerOf (whyOf a)) ≡ numberOf a
+number-kept : (a : Answer) → numberOf (reasonOf (whyOf a)) ≡ numberOf a
 number-kept (answer.Refused n) = refl
 number-kept answer.Done = refl
 number-kept (answer.Value v) = refl
 number-kept (answer.Next n) = refl
 number-kept (answer.Paused c) = refl
 
-values-kept : (a : Answer) → stopping (numberOf a) (valuesOf a) ≡ true → valuesOf (answerOf (whyOf a)) ≡ valuesOf a
+values-kept : (a : Answer) → stopping (valuesOf a) ≡ true → valuesOf (reasonOf (whyOf a)) ≡ valuesOf a
 values-kept (answer.Refused n) e = refl
 values-kept answer.Done e = refl
 values-kept (answer.Value v) e = cc
@@ -116,7 +117,7 @@ values-kept (answer.Paused c) e = refl
 
 pub stops-there : (t : Timer) (list before : List ℕ) (u : Timer) (done to : ℕ) (area : List ℕ) {i : Item} {o : Outcome} {part : List ℕ} {b : Bool} {y : Why}
     → length list % 10 ≡ 0 → Going t list before u done to area → done < count list → i ≡ itemIn (take 10 (drop (done * 10) list))
-    → Tells (worked ticks u i (left to area)) o part → b ≡ stopping (numberOf (o .answer)) (valuesOf (o .answer)) → b ≡ true → y ≡ whyOf (o .answer)
+    → Tells (worked ticks u i (left to area)) o part → b ≡ stopping (valuesOf (o .answer)) → b ≡ true → y ≡ whyOf (o .answer)
     → Lists (listing ticks t list before) (record { timer = o .timer; done = done; written = to + o .written; why = y }) (back to area part)
 unfolding listed
 stops-there t list before u done to area {i} {o} {part} {b} {y} m g l e h s f q =
@@ -127,6 +128,7 @@ stops-there t list before u done to area {i} {o} {part} {b} {y} m g l e h s f q 
     rw (whole t list before m, ← g .rest, n, q)
     (record {
       done = sym (add-zero done);
+      why = sym (ap whyOf (determined (o .answer))) ∙ rw (w .number, w .values);
       told = record {
         timer = p .timer;
         number = number-kept (o .answer) ∙ p .number;
@@ -146,5 +148,6 @@ all-done t list before u done to area m g l =
     rw (whole t list before m, ← g .rest, n)
     (record {
       done = sym (add-zero done);
+      why = refl;
       told = record { timer = refl; number = refl; values = refl; written = sym (add-zero to); area = sym (take-append-drop to area); valid = g .valid };
     })

@@ -10,7 +10,7 @@ use Rattle.counter.specs.declared.state.Timer.{Timer}
 use Rattle.passage.specs.Passage.{Passage, ticks}
 use Rattle.tick.proofs.Choices.{cond-all}
 use Rattle.answers.specs.declared.Outcome.{Outcome}
-use Rattle.answers.specs.Answers.{Told, Values, given, turned, Tells, numberOf, valuesOf}
+use Rattle.answers.specs.Answers.{Told, Values, given, turned, Tells, valuesOf}
 use Rattle.timer.specs.declared.calls.Call.{Call}
 use Rattle.timer.specs.declared.calls.Call.the-variants as call
 use Rattle.counter.specs.Halts.{latestTo}
@@ -83,7 +83,7 @@ unfolding worked wrote
 worked-within p t i area =
     let a = answered p t call.Advance (i .cycle .0) area in
     let h = answered-within p t call.Advance (i .cycle .0) area in
-    cond-all Within (stopping (a .number) (a .values)) h (behind-within (a .written) (a .area) _ (h .upto) (answered-within p (a .timer) (call.Write (i .address) (i .value)) (i .cycle .0) (drop (a .written) (a .area))))
+    cond-all Within (stopping (a .values)) h (behind-within (a .written) (a .area) _ (h .upto) (answered-within p (a .timer) (call.Write (i .address) (i .value)) (i .cycle .0) (drop (a .written) (a .area))))
 
 -- so it lies in the part that was lent
 pub inside : {x : Told} {r : Outcome} {after : List ℕ} → Within x → Tells x r after → r .written ≤ length after
@@ -104,12 +104,12 @@ second-is : {A : Type 0} (Q : A → Type 0) (b : Bool) (x y : A) → b ≡ false
 second-is Q b x y e h = rw e h
 
 -- a test of the code's answer is the test of what it tells
-pub stop-told : {x : Told} {r : Outcome} {after : List ℕ} {b d : Bool} → Tells x r after → b ≡ stopping (numberOf (r .answer)) (valuesOf (r .answer)) → b ≡ d
-    → stopping (x .number) (x .values) ≡ d
-stop-told h e g = rw (← h .number, ← h .values) (sym e ∙ g)
+pub stop-told : {x : Told} {r : Outcome} {after : List ℕ} {b d : Bool} → Tells x r after → b ≡ stopping (valuesOf (r .answer)) → b ≡ d
+    → stopping (x .values) ≡ d
+stop-told h e g = rw (← h .values) (sym e ∙ g)
 
 pub stopped : (t : Timer) (i : Item) (before : List ℕ) {a : Outcome} {mid : List ℕ} {b : Bool} → Tells (answered ticks t call.Advance (i .cycle .0) before) a mid
-    → b ≡ stopping (numberOf (a .answer)) (valuesOf (a .answer)) → b ≡ true → Tells (worked ticks t i before) a mid
+    → b ≡ stopping (valuesOf (a .answer)) → b ≡ true → Tells (worked ticks t i before) a mid
 unfolding worked wrote
 stopped t i before {a} {mid} h e g = first-is (λ (z : Told). Tells z a mid) _ _ _ (stop-told h e g) h
 
@@ -127,7 +127,7 @@ put-behind n area {x} {w} {part} h =
     }
 
 pub both : (t : Timer) (i : Item) (before : List ℕ) {a w : Outcome} {mid part : List ℕ} {b : Bool} → Tells (answered ticks t call.Advance (i .cycle .0) before) a mid
-    → b ≡ stopping (numberOf (a .answer)) (valuesOf (a .answer)) → b ≡ false
+    → b ≡ stopping (valuesOf (a .answer)) → b ≡ false
     → Tells (answered ticks (a .timer) (call.Write (i .address) (i .value)) (i .cycle .0) (left (a .written) mid)) w part
     → Tells (worked ticks t i before) (record { answer = w .answer; timer = w .timer; written = a .written + w .written }) (back (a .written) mid part)
 unfolding worked wrote

@@ -3,7 +3,6 @@ use Prim.Native.Nat.{ℕ, _+_, _/_}
 use mathlib.Core.Bool.{cond}
 use mathlib.Core.List.{List, [], _∷_, _++_}
 use mathlib.Core.Path.{_≡_}
-use lib.Dec.{eqb}
 use lib.ListN.{take, drop, replicate}
 use Rattle.counter.specs.declared.state.Timer.{Timer}
 use Rattle.counter.specs.Fresh.{freshOf}
@@ -46,7 +45,7 @@ unfoldable pub requests : Passage → Timer → List Single → List ℕ → Lis
 requests p t [] area = []
 requests p t (q ∷ qs) area =
     within q area
-    ∷ cond (stopping (told p t (within q area) .number) (told p t (within q area) .values)) []
+    ∷ cond (stopping (told p t (within q area) .values)) []
     (requests p (told p t (within q area) .timer) qs (drop (told p t (within q area) .written) (told p t (within q area) .area)))
 
 -- the records of outcomes, one after the other
@@ -57,17 +56,23 @@ recordsIn (x ∷ xs) = take (x .written) (x .area) ++ recordsIn xs
 -- how many of them do not stop
 unfoldable pub going : List Told → ℕ
 going [] = 0
-going (x ∷ xs) = cond (stopping (x .number) (x .values)) 0 1 + going xs
+going (x ∷ xs) = cond (stopping (x .values)) 0 1 + going xs
 
--- the number of the first that is turned away, 0 for none
+-- the number of the one that stops, 0 for none
 unfoldable pub numberIn : List Told → ℕ
 numberIn [] = 0
-numberIn (x ∷ xs) = cond (eqb (x .number) 0) (numberIn xs) (x .number)
+numberIn (x ∷ xs) = cond (stopping (x .values)) (x .number) (numberIn xs)
 
--- timer, records and number are those of the single calls, and the rest of the area is as it was
+-- its values: the sync cycle of one that pauses, or that it is turned away
+unfoldable pub valuesIn : List Told → Values
+valuesIn [] = none
+valuesIn (x ∷ xs) = cond (stopping (x .values)) (x .values) (valuesIn xs)
+
+-- timer, records, number and pause cycle are those of the single calls, and the rest of the area is as it was
 pub record AsSingles (p : Passage) (t : Timer) (qs : List Request) (area : List ℕ) (x : Told) : Type 0 where
   pub timer : x .timer ≡ last p t qs
   pub number : x .number ≡ numberIn (outcomes p t qs)
+  pub values : x .values ≡ valuesIn (outcomes p t qs)
   pub records : take (x .written) (x .area) ≡ recordsIn (outcomes p t qs)
   pub rest : drop (x .written) (x .area) ≡ drop (x .written) area
 

@@ -1,6 +1,6 @@
 -- A day's register writes in one go (02, 2.1): each item is worked by the single calls, each in what is left of the area.
 use Prim.Native.Nat.{ℕ, _+_, _/_, _%_}
-use mathlib.Core.Bool.{Bool, true, false, cond, not, _||_}
+use mathlib.Core.Bool.{Bool, true, false, cond}
 use mathlib.Core.List.{List, [], _∷_, _++_}
 use mathlib.Core.Path.{_≡_}
 use lib.Dec.{eqb}
@@ -9,7 +9,7 @@ use Rattle.counter.specs.declared.state.Timer.{Timer}
 use Rattle.passage.specs.Passage.{Passage}
 use Rattle.answers.specs.declared.Answer.{Answer}
 use Rattle.answers.specs.declared.Answer.the-variants as answer
-use Rattle.answers.specs.Answers.{Values, none, byte, event, paused, Told, turned, Tells}
+use Rattle.answers.specs.Answers.{Values, refused, none, byte, event, paused, Told, turned, answerOf, Tells}
 use Rattle.timer.specs.declared.calls.Call.the-variants as call
 use Rattle.timer.specs.Calls.{answered}
 use Rattle.writes.specs.declared.items.Item.{Item}
@@ -20,16 +20,13 @@ use Rattle.writes.specs.Items.{itemsIn}
 
 -- ---- when the list stops
 
--- values that say a pause (02, 2.1)
-abbrev pub pauses : Values → Bool
-pauses none = false
-pauses (byte v) = false
-pauses (event n) = false
-pauses (paused c) = true
-
 -- the call stops at the first item that pauses or is turned away (02, 2.1)
-abbrev pub stopping : ℕ → Values → Bool
-stopping number values = pauses values || not (eqb number 0)
+abbrev pub stopping : Values → Bool
+stopping refused = true
+stopping none = false
+stopping (byte v) = false
+stopping (event n) = false
+stopping (paused c) = true
 
 -- ---- one item
 
@@ -40,7 +37,7 @@ behind n area x = record { timer = x .timer; number = x .number; values = x .val
 -- the item's write after its advance, in what is left of the area; none where the advance stops (02, 2.1)
 unfoldable pub wrote : Passage → Item → Told → Told
 wrote p i a =
-    cond (stopping (a .number) (a .values)) a
+    cond (stopping (a .values)) a
     (behind (a .written) (a .area) (answered p (a .timer) (call.Write (i .address) (i .value)) (i .cycle .0) (drop (a .written) (a .area))))
 
 -- an item is worked as an advance to its cycle and then the write (02, 2.1)
@@ -62,7 +59,7 @@ after k n area y = record { done = k + y .done; told = behind n area (y .told) }
 unfoldable pub listed : Passage → Timer → List Item → List ℕ → Listed
 listed p t [] area = record { done = 0; told = record { timer = t; number = 0; values = none; written = 0; area = area } }
 listed p t (i ∷ is) area =
-    cond (stopping (worked p t i area .number) (worked p t i area .values))
+    cond (stopping (worked p t i area .values))
     (record { done = 0; told = worked p t i area })
     (after 1 (worked p t i area .written) (worked p t i area .area)
     (listed p (worked p t i area .timer) is (drop (worked p t i area .written) (worked p t i area .area))))
@@ -83,12 +80,13 @@ whyOf (answer.Next n) = why.AllDone
 whyOf (answer.Paused c) = why.Paused c
 
 -- the answer of each case of the code's reason, whose number and values are 01's (02, 2.1)
-abbrev pub answerOf : Why → Answer
-answerOf why.AllDone = answer.Done
-answerOf (why.Paused c) = answer.Paused c
-answerOf (why.Refused n) = answer.Refused n
+abbrev pub reasonOf : Why → Answer
+reasonOf why.AllDone = answer.Done
+reasonOf (why.Paused c) = answer.Paused c
+reasonOf (why.Refused n) = answer.Refused n
 
 -- the items done, and of timer, reason, bytes written and every byte of the area what a call tells; the timer that comes out is valid
 pub record Lists (x : Listed) (r : Written) (area : List ℕ) : Type 0 where
   pub done : r .done ≡ x .done
-  pub told : Tells (x .told) (record { answer = answerOf (r .why); timer = r .timer; written = r .written }) area
+  pub why : r .why ≡ whyOf (answerOf (x .told .number) (x .told .values))
+  pub told : Tells (x .told) (record { answer = reasonOf (r .why); timer = r .timer; written = r .written }) area

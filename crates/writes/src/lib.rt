@@ -12,7 +12,7 @@ use timer::calls::write;
 ghost use mathlib.Core.Path.{_≡_};
 ghost use Rattle.passage.specs.Passage.{ticks};
 ghost use Rattle.counter.specs.Valid.{Valid};
-ghost use Rattle.answers.specs.Answers.{Tells, numberOf, valuesOf};
+ghost use Rattle.answers.specs.Answers.{Tells, valuesOf};
 ghost use Rattle.writes.specs.Writes.{stopping, whyOf, worked, listing, Lists};
 
 // Why a list ended: every item is done, an advance paused at its sync cycle, or a refusal's number.
@@ -32,10 +32,10 @@ pub struct Written {
 
 // Does a call that answers so stop the list: it was turned away, or it paused.
 fn stops(answer: Answer) -> bool
-    ensures { λ r. ⌜ r ≡ stopping (numberOf answer) (valuesOf answer) ⌝ }
+    ensures { λ r. ⌜ r ≡ stopping (valuesOf answer) ⌝ }
 {
     match answer {
-        Answer::Refused(n) => n != 0,
+        Answer::Refused(n) => true,
         Answer::Done => false,
         Answer::Value(v) => false,
         Answer::Next(n) => false,
