@@ -17,6 +17,9 @@ SEED ?= 1
 BENCH ?= target/bin/bench
 ORACLE := oracle/target/release
 
+LIBRARY := target/staticlib/libshell.a
+WARN := -Wall -Wextra -Wpedantic -Werror
+
 CARGO := MCS="$(abspath $(MCS))" cargo
 
 .PHONY: run soak test oracle against-bench library bindings speed
@@ -61,8 +64,12 @@ library:
 # With MCS the crate is also compared with the Rust; bindings/README.md has more.
 bindings: library
 	cargo test --release --offline --manifest-path bindings/rust/Cargo.toml
-	$(CC) -std=c11 -Wall -Wextra -Werror -o target/t1 bindings/c/t1.c target/staticlib/libshell.a
+	$(CC) $(WARN) -std=c11 -o target/t1 bindings/c/t1.c $(LIBRARY)
 	target/t1
+	$(CXX) $(WARN) -std=c++11 -o target/door bindings/c/door.cpp $(LIBRARY)
+	target/door
+	$(CC) $(WARN) -std=c11 -o target/m328p bindings/c/m328p.c
+	@target/m328p | while read -r keys; do grep -qF "\"$$keys\"" crates/script/src/presets.rt || { echo "bindings: paddlemauve_m328p.h has a timer that is no preset: $$keys" >&2; exit 1; }; done
 ifneq ($(MCS),)
 	$(CARGO) build --release --offline --manifest-path bindings/against/Cargo.toml
 	bindings/against/target/release/against $(CALLS) $(SEED)

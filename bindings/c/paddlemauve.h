@@ -1,10 +1,14 @@
-/* What crates/shell exports, with the timer of crates/counter and its configuration of crates/config, for C on x86-64. */
+/* What crates/shell exports, with the timer of crates/counter and its configuration of crates/config, for C and C++ on x86-64. */
 #ifndef PADDLEMAUVE_H
 #define PADDLEMAUVE_H
 
 #include <stdbool.h>
 #include <stddef.h>
 #include <stdint.h>
+
+#ifdef __cplusplus
+extern "C" {
+#endif
 
 struct pm_wire { bool present; uint8_t pin; };
 struct pm_compare { bool present; uint16_t address; uint8_t flag, force; struct pm_wire wire; };
@@ -32,7 +36,20 @@ struct pm_timer {
     struct { bool asleep; uint64_t since; bool reduced, tsm, routed; } halts;
 };
 
-/* number: 0, or 1 where the configuration is refused; timer is then one of the least configuration. */
+/* Why a call was turned away. Neither the timer nor a byte of the area has changed then. */
+enum pm_refusal {
+    PM_CONFIGURATION = 1,    /* the configuration breaks a rule: mend it */
+    PM_CYCLE_TOO_LARGE,      /* over 2^62 - 1: start the cycles lower */
+    PM_CYCLE_PASSED,         /* below the latest accepted: call in the order of the cycles, after a pause from its cycle on */
+    PM_NO_REGISTER,          /* no register of this timer: look at its configuration */
+    PM_LEVEL,                /* a level is 0 or 1, a sleep mode 0 to 7 */
+    PM_EVENT_DUE,            /* the next event lies at or before the cycle: advance to the cycle first */
+    PM_ASLEEP,               /* halted asleep: wake the timer first */
+    PM_AREA_TOO_SMALL,       /* lend PM_AREA bytes */
+    PM_NO_CALL = 255         /* the kind is no enum pm_kind */
+};
+
+/* number: 0, or PM_CONFIGURATION; timer is then one of the least configuration. */
 struct pm_begun { uint8_t number; struct pm_timer timer; };
 
 enum pm_kind {
@@ -45,7 +62,7 @@ struct pm_asked { uint8_t kind, pin, value; uint16_t address; uint64_t cycle; };
 
 enum pm_what { PM_NOTHING, PM_BYTE, PM_EVENT_AT, PM_NO_EVENT, PM_PAUSED_AT, PM_REFUSED };
 
-/* number: 0, or the refusal's, 255 for a kind that names no call; what: an enum pm_what. */
+/* number: 0, or an enum pm_refusal; what: an enum pm_what, with its value. */
 struct pm_reply { uint8_t number, what; uint64_t value, written; };
 
 struct pm_area { uint8_t *start; size_t length; };
@@ -54,5 +71,49 @@ struct pm_shape { uint64_t size, align; };
 struct pm_shape paddlemauve_shape(void);
 struct pm_begun paddlemauve_start(struct pm_config config);
 struct pm_reply paddlemauve_call(struct pm_timer *timer, struct pm_asked asked, struct pm_area area);
+
+/* The bytes of a record, and those of an area that holds the records of any call's one event. */
+enum { PM_RECORD = 10, PM_AREA = 110 };
+
+enum pm_record_kind { PM_PIN, PM_FLAGS, PM_TRIGGER };
+
+/* The request lines of a flag record, and the triggers. */
+enum pm_line { PM_LINE_C = 1, PM_LINE_CAPTURE = 2, PM_LINE_B = 4, PM_LINE_A = 8, PM_LINE_OVERFLOW = 16 };
+enum pm_trigger { PM_COMPARE_A = 1, PM_COMPARE_B, PM_OVERFLOW, PM_CAPTURE };
+
+/* A record. kind: an enum pm_record_kind, which says which of the fields behind cycle count: pin, enable and value; flags (TIFR bits raised) and
+ * lines (those that are up, of enum pm_line); or trigger (an enum pm_trigger) and id, the timer's. The others are 0. */
+struct pm_record {
+    uint8_t kind; uint64_t cycle;
+    uint8_t pin; bool enable, value;
+    uint8_t flags, lines;
+    uint8_t trigger, id;
+};
+
+/* The record of PM_RECORD bytes, as a call wrote them. */
+static inline struct pm_record pm_read_record(const uint8_t *bytes)
+{
+    struct pm_record r = {0, 0, 0, false, false, 0, 0, 0, 0};
+    int i;
+    for (i = 0; i < 8; i++) r.cycle = r.cycle << 8 | bytes[i];
+    r.kind = (uint8_t)(r.cycle >> 62);
+    r.cycle &= ((uint64_t)1 << 62) - 1;
+    if (r.kind == PM_PIN) {
+        r.pin = bytes[8];
+        r.enable = bytes[9] >> 7 & 1;
+        r.value = bytes[9] >> 6 & 1;
+    } else if (r.kind == PM_FLAGS) {
+        r.flags = bytes[8];
+        r.lines = bytes[9] >> 3;
+    } else if (r.kind == PM_TRIGGER) {
+        r.trigger = bytes[8] >> 4;
+        r.id = (uint8_t)(bytes[8] << 4 | bytes[9] >> 4);
+    }
+    return r;
+}
+
+#ifdef __cplusplus
+}
+#endif
 
 #endif

@@ -74,6 +74,20 @@ impl Refusal {
         self as u8 + 1
     }
 
+    /// What to do.
+    pub fn advice(self) -> &'static str {
+        match self {
+            Self::Configuration => "mend the configuration",
+            Self::CycleTooLarge => "start the cycles lower: they end at 2^62 - 1",
+            Self::CyclePassed => "call in the order of the cycles, after a pause from its cycle on",
+            Self::Address => "look at the configuration's addresses",
+            Self::Level => "give a level of 0 or 1, a sleep mode of 0 to 7",
+            Self::EventDue => "advance to the cycle first",
+            Self::Asleep => "wake the timer first",
+            Self::AreaTooSmall => "lend a larger area: 110 bytes hold any call's records",
+        }
+    }
+
     pub(crate) fn of(number: u8) -> Self {
         match number {
             1 => Self::Configuration,
@@ -91,7 +105,7 @@ impl Refusal {
 
 impl fmt::Display for Refusal {
     fn fmt(&self, f: &mut fmt::Formatter) -> fmt::Result {
-        write!(f, "refused {}", self.number())
+        write!(f, "refused {}: {}", self.number(), self.advice())
     }
 }
 

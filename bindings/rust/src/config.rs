@@ -133,6 +133,27 @@ impl Config {
         sleeprun: 0,
     };
 
+    /// Timer2 of the ATmega328P (28 pins).
+    pub const M328P_TIMER2: Self = Self {
+        id: 2,
+        wide: false,
+        layout: Layout::Split,
+        tccra: 0xb0,
+        tccrb: 0xb1,
+        foc: 0xb1,
+        tcnt: 0xb2,
+        a: Compare::at(0xb3, 2, 0x80, Some(17)),
+        b: Compare::at(0xb4, 4, 0x40, Some(5)),
+        c: Compare::ABSENT,
+        icr: Capture::ABSENT,
+        tov: 1,
+        t: None,
+        clocks: Clocks::Timer2,
+        group: 2,
+        prr: 0x40,
+        sleeprun: 0x88,
+    };
+
     pub(crate) fn raw(&self) -> raw::Config {
         raw::Config {
             id: self.id,

@@ -28,7 +28,7 @@ fn numbers() {
         Refusal::AreaTooSmall,
     ];
     assert_eq!(all.map(Refusal::number), [1, 2, 3, 4, 5, 6, 7, 8]);
-    assert_eq!(Refusal::EventDue.to_string(), "refused 6");
+    assert_eq!(Refusal::EventDue.to_string(), "refused 6: advance to the cycle first");
 }
 
 #[test]
