@@ -1,5 +1,7 @@
 // The record area: what a call reports, as records of ten bytes one after the other.
 
+pub mod numbers;
+
 ghost use mathlib.Core.Path.{_≡_};
 ghost use mathlib.Core.Bool.{cond};
 ghost use Prim.Native.Nat.{_+_, _≤_};

@@ -1,10 +1,11 @@
 // An item of the list: ten bytes, most significant first.
 
+use records::numbers::eight;
+use records::numbers::two;
 use time::units::Cycle;
 ghost use mathlib.Core.Path.{_≡_};
-ghost use Prim.Native.Nat.{_+_, _≤_, _<_, _^_};
+ghost use Prim.Native.Nat.{_+_, _≤_};
 ghost use lib.ListN.{length, take, drop};
-ghost use Rattle.records.specs.Records.{numberOf};
 ghost use Rattle.writes.specs.Items.{itemIn};
 
 // A register's address, the byte to write there, and the cycle.
@@ -14,28 +15,14 @@ pub struct Item {
     pub cycle: Cycle,
 }
 
-// Yields the number that n bytes from a place on make, most significant first.
-fn number(list: &[u8], from: usize, n: usize) -> u64
-    requires { ⌜ (from + n ≤ length (now list)) × (n ≤ 8) ⌝ }
-    ensures { λ r. ⌜ (r ≡ numberOf (take n (drop from (now (list .entry))))) × (r < 256 ^ n) ⌝ }
-{
-    let mut sum: u64 = 0;
-    let mut i = 0;
-    while i < n {
-        sum = sum * 256 + (list[from + i] as u64);
-        i += 1;
-    }
-    sum
-}
-
 impl Item {
     // Yields the item in the ten bytes from a place of the list on: address (10 bits), value (8), cycle (62).
     pub fn at(list: &[u8], from: usize) -> Item
         requires { ⌜ from + 10 ≤ length (now list) ⌝ }
         ensures { λ r. ⌜ r ≡ itemIn (take 10 (drop from (now (list .entry)))) ⌝ }
     {
-        let head = number(list, from, 2);
-        let rest = number(list, from + 2, 8);
+        let head = two(list, from);
+        let rest = eight(list, from + 2);
         Item {
             address: (head / 64) as u16,
             value: (head % 64 * 4 + rest / 0x4000_0000_0000_0000) as u8,

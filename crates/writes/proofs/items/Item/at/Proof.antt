@@ -5,7 +5,7 @@ use Rattle.writes.proofs.items.Item.at.Statement.{statement}
 use Rattle.writes.proofs.items.Item.at.Tie as tie
 
 returns : tie.Need-returns
-returns c = item-at (c .before .before .before .args .list .now) (c .before .before .before .args .from) _ _ (c .before .before .before .pre) (c .before .number .ensures) (c .number2 .ensures)
+returns c = item-at (c .before .before .before .args .list .now) (c .before .before .before .args .from) _ _ (c .before .before .before .pre) (c .before .two .ensures) (c .eight .ensures)
 
 pub at-spec : {M : Type 1} → statement M
 at-spec =
