@@ -73,6 +73,8 @@ bindings: library
 ifneq ($(MCS),)
 	$(CARGO) build --release --offline --manifest-path bindings/against/Cargo.toml
 	bindings/against/target/release/against $(CALLS) $(SEED)
+	$(CARGO) build --release --offline --manifest-path bindings/mcs-sim/beside/Cargo.toml
+	bindings/mcs-sim/beside/target/release/beside $(CALLS) $(SEED)
 endif
 
 # docs/SPEED.md says what is measured, and how.

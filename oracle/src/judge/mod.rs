@@ -9,7 +9,7 @@ mod records;
 mod refusals;
 mod rules;
 mod scheduler;
-mod setup;
+pub mod setup;
 
 use std::panic::{catch_unwind, AssertUnwindSafe};
 
