@@ -24,7 +24,7 @@ fn m328p(preset: usize) -> Keys {
             0,
         ),
         _ => Keys::of(
-            b"id=2 wide=0 layout=split tccra=B0 tccrb=B1 foc=B1 foca=80 focb=40 tcnt=B2 ocra=B3 ocrb=B4 icr=- tov=1 ocfa=2 ocfb=4 icf=0 pina=17 pinb=5 c=- icp=- t=- clock=t2 group=2 prr=40 sleeprun=88",
+            b"id=2 wide=0 layout=split tccra=B0 tccrb=B1 foc=B1 foca=80 focb=40 tcnt=B2 ocra=B3 ocrb=B4 icr=- tov=1 ocfa=2 ocfb=4 icf=0 pina=17 pinb=5 c=- icp=- t=- clock=t2 group=2 prr=40 sleeprun=0",
             0,
         ),
     }
