@@ -6,6 +6,7 @@
 # make oracle MCS=../MCS CALLS=10000000 SEED=7    a longer comparison, from another seed
 # make oracle MCS=../MCS BENCH=                   without the bench program: needs Rust alone
 # make bindings [MCS=../MCS]                      the static library, the Rust crate over it, and its tests
+# make simavr                                     AVR programs on simavr with the proved timers; needs libsimavr-dev, gcc-avr, avr-libc
 # make speed MCS=../MCS                           the timer beside the Rust, in nanoseconds and instructions
 
 SCRIPT ?= examples/door.script
@@ -22,7 +23,7 @@ WARN := -Wall -Wextra -Wpedantic -Werror
 
 CARGO := MCS="$(abspath $(MCS))" cargo
 
-.PHONY: run soak test oracle against-bench library bindings speed
+.PHONY: run soak test oracle against-bench library bindings simavr speed
 .DELETE_ON_ERROR:
 
 # Each command of the script with its answer under it; the story's answers are held to those that are stored.
@@ -76,6 +77,12 @@ ifneq ($(MCS),)
 	$(CARGO) build --release --offline --manifest-path bindings/mcs-sim/beside/Cargo.toml
 	bindings/mcs-sim/beside/target/release/beside $(CALLS) $(SEED)
 endif
+
+# bindings/simavr/README.md has more.
+simavr:
+	@bindings/simavr/try.sh needs
+	@$(MAKE) --no-print-directory library
+	@bindings/simavr/try.sh $(LIBRARY)
 
 # docs/SPEED.md says what is measured, and how.
 speed: library
