@@ -151,7 +151,7 @@ impl Config {
         clocks: Clocks::Timer2,
         group: 2,
         prr: 0x40,
-        sleeprun: 0x88,
+        sleeprun: 0,
     };
 
     pub(crate) fn raw(&self) -> raw::Config {
