@@ -2,8 +2,8 @@
 
 use crate::setting::Moving;
 use crate::setting::Setting;
-use wave::kinds::FAST;
 use wave::kinds::ICR;
+use wave::kinds::fast_pwm;
 ghost use mathlib.Core.Path.{_≡_};
 ghost use Rattle.tick.specs.Tick.{eventsAt};
 
@@ -43,7 +43,7 @@ impl Setting {
             overflow: wave.overflows(attop, atzero, count == wave.max),
             capture: (wave.source == ICR) & self.capture & attop,
             load: wave.loads(attop, atzero),
-            bottom: (wave.kind == FAST) & attop,
+            bottom: fast_pwm(wave.kind) & attop,
             rises: (count != top) & ((count == 0) | !(direction < 0)),
         }
     }

@@ -7,12 +7,13 @@ use crate::setting::Moving;
 use crate::setting::Setting;
 use records::Entry;
 use time::units::Cycle;
-use wave::kinds::CTC;
 use wave::kinds::FAST;
 use wave::kinds::NORMAL;
+use wave::kinds::non_pwm;
 ghost use Prim.Native.Nat.{_+_, _<_, _≤_};
 ghost use mathlib.Core.Path.{_≡_};
 ghost use mathlib.Core.Bool.{cond};
+ghost use lib.Dec.{leb};
 ghost use lib.ListN.{length};
 ghost use Rattle.tick.specs.Outputs.{bit, pinEntry, driveTo, levelOf, recorded, applied, acted, matched, bottomed, matchesOf, bottomsOf, outputs, outsOf, begun, Wrote, reapplied, strobed};
 
@@ -52,6 +53,19 @@ impl Channel {
                 NORMAL..=FAST => bit(comx == 3),
                 _ => bit((comx == 2) != rises),
             },
+        }
+    }
+}
+
+impl Channel {
+    // Does the COM field act at BOTTOM in F: 2 and 3.
+    pub fn acts_at_bottom(self) -> bool
+        ensures { λ r. ⌜ r ≡ leb 2 (self .comx) ⌝ }
+    {
+        let comx = self.comx;
+        match comx {
+            0..=1 => false,
+            _ => true,
         }
     }
 }
@@ -159,7 +173,7 @@ impl Outputs {
         ensures { λ r. ⌜ Wrote (bottomed channel ch (begun self)) (cycle .0) (self .to) (now (area .entry)) r (now (area .exit)) × (r .to ≤ self .to + 10) ⌝ }
     {
         let comx = channel.comx;
-        if 2 <= comx {
+        if channel.acts_at_bottom() {
             self.act(channel, ch, bit(comx == 2), area, cycle)
         } else {
             self
@@ -247,7 +261,7 @@ impl Setting {
     {
         let wave = self.wave;
         let kind = wave.kind;
-        if kind <= CTC {
+        if non_pwm(kind) {
             let a = self.a;
             let b = self.b;
             let c = self.c;

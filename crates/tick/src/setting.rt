@@ -3,8 +3,8 @@
 use config::Compare;
 use config::Wire;
 use wave::count::Counter;
-use wave::kinds::CTC;
 use wave::kinds::Wave;
+use wave::kinds::non_pwm;
 ghost use Prim.Native.Nat.{_≤_};
 ghost use mathlib.Core.Path.{_≡_};
 ghost use Rattle.wave.specs.Distance.{gap};
@@ -57,7 +57,7 @@ impl Channel {
     {
         match comx {
             0 => false,
-            1 => (kind <= CTC) | toggles,
+            1 => non_pwm(kind) | toggles,
             _ => true,
         }
     }

@@ -7,6 +7,8 @@ use crate::kinds::NORMAL;
 use crate::kinds::OCRA;
 use crate::kinds::PC;
 use crate::kinds::Wave;
+use crate::kinds::dual_slope;
+use crate::kinds::ends_at_top;
 ghost use Prim.Native.Nat.{_+_, _-_, _<_, _≤_};
 ghost use mathlib.Core.Path.{_≡_};
 ghost use mathlib.Core.Bool.{cond, _&&_};
@@ -59,7 +61,7 @@ impl Wave {
         ensures { λ r. ⌜ r ≡ falls self counter ⌝ }
     {
         let direction = counter.direction;
-        (PC <= self.kind) & (direction < 0)
+        dual_slope(self.kind) & (direction < 0)
     }
 
     // Does a tick raise TOV: N and C at MAX, F at TOP, P and Q at 0.
@@ -113,7 +115,7 @@ impl Wave {
             } else {
                 stepped(count, step)
             }
-        } else if (CTC <= kind) & (count == top) {
+        } else if ends_at_top(kind) & (count == top) {
             match kind {
                 NORMAL..=FAST => 0,
                 _ => if top == 0 { 0 } else { count - 1 },
@@ -129,7 +131,7 @@ impl Wave {
     pub fn next_direction(self, direction: i32, top: bool, zero: bool) -> i32
         ensures { λ r. ⌜ r ≡ nextDirection self direction top zero ⌝ }
     {
-        if (PC <= self.kind) & top {
+        if dual_slope(self.kind) & top {
             -1
         } else if zero {
             1

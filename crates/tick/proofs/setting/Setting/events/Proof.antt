@@ -12,7 +12,7 @@ told c = search needs
 
 returns : tie.Need-returns
 unfolding eventsAt atTop atZero rising
-returns c = simp (sign-is (told (c .before .before .before .before .before .before .before .before .before .before .before)), c .before .before .before .before .before .before .before .before .hits .ensures, c .before .before .before .before .before .before .before .hits2 .ensures, c .before .before .before .before .before .before .hits3 .ensures, c .before .before .before .before .overflows .ensures, c .before .loads .ensures, c .before .before .before .before .before .before .before .before .before .falls .ensures)
+returns c = simp (c .fast-pwm .ensures, sign-is (told (c .before .before .before .before .before .before .before .before .before .before .before)), c .before .before .before .before .before .before .before .before .hits .ensures, c .before .before .before .before .before .before .before .hits2 .ensures, c .before .before .before .before .before .before .hits3 .ensures, c .before .before .before .before .overflows .ensures, c .before .loads .ensures, c .before .before .before .before .before .before .before .before .before .falls .ensures)
 
 pub events-spec : {M : Type 1} → statement M
 events-spec =
@@ -24,6 +24,7 @@ events-spec =
     (λ c. search needs)
     (λ c κs. search needs)
     (λ c. search needs)
+    (λ c κs. search needs)
     (λ c κs. search needs)
     (λ c κs. search needs)
     (λ c κs. search needs)

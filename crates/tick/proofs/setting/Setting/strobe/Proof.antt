@@ -1,4 +1,3 @@
-use borrow.Author.Tests.{le-leb, lt-leb}
 use native.Mathlib.Omega.{arith}
 use borrow.Author.Needs.{needs}
 use Rattle.tick.specs.Outputs.{strobed}
@@ -8,16 +7,17 @@ use Rattle.tick.proofs.setting.Setting.strobe.Tie as tie
 
 returns : tie.Need-returns
 unfolding strobed
-returns c = (rw (le-leb _ _ (c .before .before .before .before .before .before .before .if1 .taken)) (c .before .before .matches .ensures .0), c .before .before .matches .ensures .1)
+returns c = (rw (← c .before .before .before .before .before .before .before .before .non-pwm .ensures, c .before .before .before .before .before .before .before .if1 .taken) (c .before .before .matches .ensures .0), c .before .before .matches .ensures .1)
 
 returns-2 : tie.Need-returns-2
 unfolding strobed
-returns-2 c = (rw (lt-leb _ _ (c .if1 .left)) (wrote-none _ _ _), omega arith)
+returns-2 c = (rw (← c .before .non-pwm .ensures, c .if1 .left) (wrote-none _ _ _), omega arith)
 
 pub strobe-spec : {M : Type 1} → statement M
 strobe-spec =
     tie.close
     (tie.spec
+    (λ c κs. search needs)
     (λ c κs. search needs)
     (λ c. search needs)
     returns

@@ -8,7 +8,7 @@ use Rattle.wave.proofs.kinds.Wave.falls.Tie as tie
 
 returns : tie.Need-returns
 unfolding falls
-returns c = let h : SFits w32 (c .before .before .args .counter .direction) = search needs in simp (sign-is h)
+returns c = let h : SFits w32 (c .before .before .args .counter .direction) = search needs in simp (c .dual-slope .ensures, sign-is h)
 
 pub falls-spec : {M : Type 1} → statement M
-falls-spec = tie.close (tie.spec returns)
+falls-spec = tie.close (tie.spec (λ c κs. search needs) returns)

@@ -1,7 +1,6 @@
 use native.Mathlib.Omega.{arith}
 use mathlib.Core.Bool.{Bool}
 use mathlib.Core.Path.{_≡_}
-use lib.Dec.{leb}
 use borrow.Author.Needs.{needs}
 use borrow.Author.Tests.{le-leb, lt-leb, eq-eqb, ne-eqb}
 use Rattle.wave.specs.Count.{negative, nextCount}
@@ -20,10 +19,10 @@ stepped-requires : tie.Need-stepped-requires
 stepped-requires c κs = (omega arith, step-down (c .before .before .before .step .ensures .1) (sign (c .before .before) (c .before .if1 .taken)) (omega arith))
 
 sub-result : tie.Need-sub-result
-sub-result c = omega (arith, met (leb 1 (c .before .before .before .before .before .before .before .args .self .kind)) (c .before .before .before .before .before .before .before .args .counter .count) (c .before .before .before .before .before .before .before .args .top) (c .before .before .if4 .taken))
+sub-result c = omega (arith, met (c .before .before .before .ends-at-top .result) (c .before .before .before .before .before .before .before .before .args .counter .count) (c .before .before .before .before .before .before .before .before .args .top) (c .before .before .if4 .taken))
 
 stepped-requires-2 : tie.Need-stepped-requires-2
-stepped-requires-2 c κs = (omega arith, step-up (c .before .before .before .before .before .step .ensures .1) (sign (c .before .before .before .before) (c .before .before .before .if1 .left)))
+stepped-requires-2 c κs = (omega arith, step-up (c .before .before .before .before .before .before .step .ensures .1) (sign (c .before .before .before .before .before) (c .before .before .before .before .if1 .left)))
 
 returns : tie.Need-returns
 unfolding nextCount
@@ -39,24 +38,24 @@ returns-3 c = simp (c .stepped .ensures, turn-back (c .before .before .before .b
 
 returns-4 : tie.Need-returns-4
 unfolding nextCount
-returns-4 c = simp (← c .before .before .before .falls .ensures, c .before .before .if1 .left, c .before .if4 .taken, le-leb (c .before .before .before .before .before .before .args .self .kind) 2 (omega arith))
+returns-4 c = simp (← c .before .before .before .before .falls .ensures, c .before .before .before .if1 .left, ← c .before .before .ends-at-top .ensures, c .before .if4 .taken, le-leb (c .before .before .before .before .before .before .before .args .self .kind) 2 (omega arith))
 
 returns-5 : tie.Need-returns-5
 unfolding nextCount
-returns-5 c = simp (← c .before .before .before .before .falls .ensures, c .before .before .before .if1 .left, c .before .before .if4 .taken, lt-leb (c .before .before .before .before .before .before .before .args .self .kind) 2 (omega arith), eq-eqb _ _ (c .if6 .taken))
+returns-5 c = simp (← c .before .before .before .before .before .falls .ensures, c .before .before .before .before .if1 .left, ← c .before .before .before .ends-at-top .ensures, c .before .before .if4 .taken, lt-leb (c .before .before .before .before .before .before .before .before .args .self .kind) 2 (omega arith), eq-eqb _ _ (c .if6 .taken))
 
 returns-6 : tie.Need-returns-6
 unfolding nextCount
-returns-6 c = simp (← c .before .before .before .before .falls .ensures, c .before .before .before .if1 .left, c .before .before .if4 .taken, lt-leb (c .before .before .before .before .before .before .before .args .self .kind) 2 (omega arith), ne-eqb _ _ (c .if6 .left))
+returns-6 c = simp (← c .before .before .before .before .before .falls .ensures, c .before .before .before .before .if1 .left, ← c .before .before .before .ends-at-top .ensures, c .before .before .if4 .taken, lt-leb (c .before .before .before .before .before .before .before .before .args .self .kind) 2 (omega arith), ne-eqb _ _ (c .if6 .left))
 
 returns-7 : tie.Need-returns-7
 unfolding nextCount
-returns-7 c = simp (← c .before .before .before .before .falls .ensures, c .before .before .before .if1 .left, c .before .before .if4 .left, eq-eqb _ _ (c .if7 .taken))
+returns-7 c = simp (← c .before .before .before .before .before .falls .ensures, c .before .before .before .before .if1 .left, ← c .before .before .before .ends-at-top .ensures, c .before .before .if4 .left, eq-eqb _ _ (c .if7 .taken))
 
 returns-8 : tie.Need-returns-8
 unfolding nextCount
-returns-8 c = simp (c .stepped2 .ensures, turn-back (c .before .before .before .before .before .before .step .ensures .1), sign (c .before .before .before .before .before) (c .before .before .before .before .if1 .left), ← c .before .before .before .before .before .falls .ensures, c .before .before .before .before .if1 .left, c .before .before .before .if4 .left, ne-eqb _ _ (c .before .if7 .left))
+returns-8 c = simp (c .stepped2 .ensures, turn-back (c .before .before .before .before .before .before .before .step .ensures .1), sign (c .before .before .before .before .before .before) (c .before .before .before .before .before .if1 .left), ← c .before .before .before .before .before .before .falls .ensures, c .before .before .before .before .before .if1 .left, ← c .before .before .before .before .ends-at-top .ensures, c .before .before .before .if4 .left, ne-eqb _ _ (c .before .if7 .left))
 
 pub next-count-spec : {M : Type 1} → statement M
 next-count-spec =
-    tie.close (tie.spec step-requires (λ c κs. search needs) stepped-requires sub-result stepped-requires-2 returns returns-2 returns-3 returns-4 returns-5 returns-6 returns-7 returns-8)
+    tie.close (tie.spec step-requires (λ c κs. search needs) stepped-requires (λ c κs. search needs) sub-result stepped-requires-2 returns returns-2 returns-3 returns-4 returns-5 returns-6 returns-7 returns-8)
