@@ -70,6 +70,9 @@ static void outputs(void)
 	wait(150);
 	say(7, before ^ (PIND >> PD6 & 1));
 	say(8, TIFR0 & 1);
+	while (!(PIND & _BV(PD6))) ;
+	PORTD |= _BV(PD0);
+	say(9, PORTD);
 
 	fresh();
 	TCCR0A = _BV(WGM01) | _BV(WGM00);
@@ -79,7 +82,7 @@ static void outputs(void)
 	OCR0A = 120;
 	TIFR0 = 0xff;
 	wait(100);                      /* past 120, not yet 200 */
-	say(9, TIFR0 >> OCF0A & 1);
+	say(10, TIFR0 >> OCF0A & 1);
 }
 
 static void tops(void)
@@ -89,7 +92,7 @@ static void tops(void)
 	TCCR1A = _BV(WGM11);
 	TCCR1B = _BV(WGM13) | _BV(WGM12) | _BV(CS10);
 	wait(150);
-	say(10, TIFR1 & 0x27);
+	say(11, TIFR1 & 0x27);
 }
 
 static void prescaler(void)
@@ -100,26 +103,26 @@ static void prescaler(void)
 		GTCCR = _BV(PSRSYNC);
 		wait(500);
 	}
-	say(11, TCNT0);
+	say(12, TCNT0);
 
 	fresh();
 	GTCCR = _BV(TSM) | _BV(PSRSYNC);
-	say(12, GTCCR);
+	say(13, GTCCR);
 	TCCR0B = _BV(CS00);
 	wait(100);
-	say(13, TCNT0);
+	say(14, TCNT0);
 	GTCCR = 0;
 	wait(100);
-	say(14, TCNT0 >= 100);
+	say(15, TCNT0 >= 100);
 	GTCCR = _BV(PSRSYNC);
-	say(15, GTCCR);
+	say(16, GTCCR);
 
 	fresh();
 	GTCCR = _BV(TSM) | _BV(PSRASY);
 	TCCR2B = _BV(CS21) | _BV(CS20);
 	GTCCR = 0;
 	wait(330);
-	say(16, TCNT2);
+	say(17, TCNT2);
 }
 
 static void halts(void)
@@ -132,7 +135,7 @@ static void halts(void)
 	held = TCNT0 - held;
 	PRR = 0;
 	wait(100);
-	say(17, held << 8 | (TCNT0 >= 100));
+	say(18, held << 8 | (TCNT0 >= 100));
 
 	fresh();
 	TCCR0B = _BV(CS01);
@@ -142,7 +145,7 @@ static void halts(void)
 	sei();
 	while (!overflowed) sleep_mode();
 	cli();
-	say(18, TIFR0 & 1);
+	say(19, TIFR0 & 1);
 
 	/* The driver presses the button at PD7 now and then. */
 	fresh();
@@ -154,7 +157,7 @@ static void halts(void)
 	sei();
 	while (!woken) sleep_mode();
 	cli();
-	say(19, TCNT1 > 1000);
+	say(20, TCNT1 > 1000);
 }
 
 static void edges(void)
@@ -168,7 +171,7 @@ static void edges(void)
 		PORTD &= ~_BV(PD4);
 		wait(8);
 	}
-	say(20, TCNT0);
+	say(21, TCNT0);
 
 	fresh();
 	DDRB |= _BV(PB0);
@@ -176,8 +179,8 @@ static void edges(void)
 	wait(1000);
 	PORTB |= _BV(PB0);
 	wait(8);
-	say(21, TIFR1 & 0x20);
-	say(22, ICR1 > 1000 && ICR1 < 1100);
+	say(22, TIFR1 & 0x20);
+	say(23, ICR1 > 1000 && ICR1 < 1100);
 }
 
 static void flags(void)
@@ -186,7 +189,18 @@ static void flags(void)
 	TCCR0B = _BV(CS00);
 	wait(300);
 	TIFR0 |= _BV(TOV0);             /* an sbi */
-	say(23, TIFR0);
+	say(24, TIFR0);
+
+	fresh();
+	TCCR0B = _BV(CS00);
+	wait(300);
+	overflowed = 0;
+	TCCR0B = 0;
+	sei();
+	TIMSK0 = _BV(TOIE0);
+	wait(20);
+	cli();
+	say(25, overflowed);
 }
 
 int main(void)

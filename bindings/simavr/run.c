@@ -2,7 +2,8 @@
  * usage: run plain|ours FW.elf watch TIMER CYCLES none|beam|button
  *                                                     a reading: the flags of a timer as they rise, CYCLE:FLAGS from its zero on, and the bytes said
  *        run plain|ours FW.elf said                   the numbers that a program says, until it ends
- *        run plain|ours FW.elf door LOG               a door program for one second: the motor's pulses, and the pin records as a log */
+ *        run plain|ours FW.elf door LOG               a door program for one second: whether the beam wakes it from power-down, the
+ *                                                     widths of the motor's pulses, and the pin records as a log */
 #include <stdio.h>
 #include <stdlib.h>
 #include <string.h>
@@ -137,11 +138,13 @@ static void door(const char *log)
 	avr_irq_register_notify(avr_io_getirq(avr, AVR_IOCTL_IOPORT_GETIRQ('D'), 6), motor, NULL);
 	paddlemauve_record = keep;
 	edges(day, sizeof day / sizeof *day, 0);
+	int lamp = 0;
 	while (avr->cycle < 16000000) {
 		int state = avr_run(avr);
 		if (state == cpu_Done || state == cpu_Crashed) { printf("state %d\n", state); break; }
+		if (6000000 < avr->cycle && avr->cycle < 6100000) lamp |= avr->data[PM_M328P_PINB + 2] >> 5 & 1;
 	}
-	printf("widths");
+	printf("%s, widths", lamp ? "wakes" : "sleeps");
 	for (int w = 0; w < 257; w++)
 		if (widths[w]) printf(" %d", w);
 	puts("");

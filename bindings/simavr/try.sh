@@ -52,7 +52,7 @@ done < $here/asks.txt
 total
 
 table "a door program, for a second"
-row "the motor's pulses are of 1, 41, 81, 121 and 161 ticks" "widths 1 41 81 121 161" \
+row "no beam wakes it from power-down, and the motor's pulses are of 1, 41, 81, 121 and 161 ticks" "sleeps, widths 1 41 81 121 161" \
   "$($out/run plain $out/door.elf door $out/door.log)" "$($out/run ours $out/door.elf door $out/door.log)"
 vcd=$PWD/$(examples/program.sh vcd)
 (cd "$out" && "$vcd" < door.log > door.vcd)
