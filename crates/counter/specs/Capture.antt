@@ -1,6 +1,6 @@
 -- Input capture, and edges of the T pin (01, "Registers and capture").
 use Prim.Native.Nat.{ℕ, _/_, _%_}
-use mathlib.Core.Bool.{Bool, true, false, not, _&&_, _||_}
+use mathlib.Core.Bool.{Bool, true, false, not, _&&_}
 use lib.Bits.{bitOr}
 use lib.Dec.{eqb}
 use Rattle.wave.specs.Kinds.{I}
@@ -8,7 +8,7 @@ use Rattle.tick.specs.declared.happenings.Events.{Events}
 use Rattle.tick.specs.Tick.{raised, flagLog}
 use Rattle.counter.specs.declared.state.Timer.{Timer}
 use Rattle.counter.specs.Logs.{Noted}
-use Rattle.counter.specs.Modes.{modeOf, sourceAt, heldOf}
+use Rattle.counter.specs.Modes.{chosen, modeOf, sourceAt, heldOf}
 use Rattle.counter.specs.Parts.{flagsTo}
 use Rattle.counter.specs.Registers.{icrTo}
 use Rattle.counter.specs.Setting.{settingOf}
@@ -27,10 +27,6 @@ captured t = record {
   timer = flagsTo (icrTo t (t .counter .count)) (bitOr (t .flags .tifr) (raised (settingOf t) capture)) (t .flags .timsk);
   log = flagLog (settingOf t) capture (raised (settingOf t) capture) (bitOr (t .flags .tifr) (raised (settingOf t) capture));
 }
-
--- clock select 6 chooses the T pin's falling edge, 7 its rising one
-unfoldable pub chosen : ℕ → ℕ → ℕ → Bool
-chosen clocks select level = eqb clocks 0 && (eqb select 6 && eqb level 0 || eqb select 7 && eqb level 1)
 
 -- a chosen T edge, if nothing holds the counter, works one tick
 unfoldable pub ticksOn : Timer → ℕ → Bool

@@ -3,7 +3,7 @@ use Prim.Native.Nat.{ℕ, _+_, _*_, _/_, _%_}
 use mathlib.Core.Bool.{Bool, cond, not, _&&_, _||_}
 use mathlib.Core.List.{List, [], _∷_}
 use lib.ListN.{getD}
-use lib.Dec.{eqb, ltb}
+use lib.Dec.{eqb, leb, ltb}
 use Rattle.wave.specs.declared.kinds.Wave.{Wave}
 use Rattle.time.specs.declared.units.Prescaler.{Prescaler}
 use Rattle.time.specs.Halts.{holding}
@@ -34,13 +34,23 @@ wideSources = X ∷ X ∷ X ∷ X ∷ A ∷ X ∷ X ∷ X ∷ I ∷ A ∷ I ∷ 
 abbrev pub wideTops : List ℕ
 wideTops = 0xFFFF ∷ 0xFF ∷ 0x1FF ∷ 0x3FF ∷ 0 ∷ 0xFF ∷ 0x1FF ∷ 0x3FF ∷ 0 ∷ 0 ∷ 0 ∷ 0 ∷ 0 ∷ 0xFFFF ∷ 0 ∷ 0 ∷ []
 
--- cycles a tick by clock select, of `CS_SYNC`; 0 where the clock is stopped or the T pin's
-abbrev pub syncDivisors : List ℕ
-syncDivisors = 0 ∷ 1 ∷ 8 ∷ 64 ∷ 256 ∷ 1024 ∷ 0 ∷ 0 ∷ []
+-- clocks that are no divisor: stopped, and the edges of the T pin to level 0 and to level 1
+abbrev pub stop : ℕ
+stop = 0
 
--- the same of `CS_TIMER2`
-abbrev pub timer2Divisors : List ℕ
-timer2Divisors = 0 ∷ 1 ∷ 8 ∷ 32 ∷ 64 ∷ 128 ∷ 256 ∷ 1024 ∷ []
+abbrev pub falling : ℕ
+falling = 2048
+
+abbrev pub rising : ℕ
+rising = 2049
+
+-- the clock by its select: `CS_SYNC`
+abbrev pub csSync : List ℕ
+csSync = stop ∷ 1 ∷ 8 ∷ 64 ∷ 256 ∷ 1024 ∷ falling ∷ rising ∷ []
+
+-- and `CS_TIMER2`
+abbrev pub csTimer2 : List ℕ
+csTimer2 = stop ∷ 1 ∷ 8 ∷ 32 ∷ 64 ∷ 128 ∷ 256 ∷ 1024 ∷ []
 
 -- the mode number joins bits 4:3 (wide) or 3 (narrow) of TCCRnB above bits 1:0 of TCCRnA
 unfoldable pub modeAt : Bool → ℕ → ℕ → ℕ
@@ -67,8 +77,16 @@ unfoldable pub togglesAt : Bool → ℕ → Bool
 togglesAt wide mode = cond wide (eqb mode 9 || eqb mode 11 || eqb mode 15) (eqb mode 5 || eqb mode 7)
 
 -- clock select 0 to 7 takes one of the two tables
+abbrev pub clockAt : ℕ → ℕ → ℕ
+clockAt clocks select = cond (eqb clocks 0) (getD csSync select 0) (getD csTimer2 select 0)
+
+-- the cycles a tick of a clock that is a divisor; 0 where it is stopped or the T pin's
 unfoldable pub divisorAt : ℕ → ℕ → ℕ
-divisorAt clocks select = cond (eqb clocks 0) (getD syncDivisors select 0) (getD timer2Divisors select 0)
+divisorAt clocks select = cond (leb (clockAt clocks select) 1024) (clockAt clocks select) 0
+
+-- the clock is the T pin's edge to a level: T pin falling, T pin rising
+unfoldable pub chosen : ℕ → ℕ → ℕ → Bool
+chosen clocks select level = eqb (clockAt clocks select) falling && eqb level 0 || eqb (clockAt clocks select) rising && eqb level 1
 
 -- the timer's mode number
 unfoldable pub modeOf : Timer → ℕ

@@ -3,10 +3,9 @@
 use crate::advance::Logged;
 use crate::state::Flags;
 use crate::state::Timer;
-use config::SYNC;
 use records::Log;
-use tick::happenings::Events;
 use tick::flags::put_flags;
+use tick::happenings::Events;
 use time::units::Cycle;
 use wave::kinds::ICR;
 ghost use mathlib.Core.Path.{_≡_};
@@ -73,9 +72,7 @@ impl Timer {
     {
         let config = self.config;
         let registers = self.registers;
-        let chosen = registers.tccrb % 8;
-        (config.clocks == SYNC)
-            & (((chosen == 6) & (level == 0)) | ((chosen == 7) & (level == 1)))
-            & !self.held()
+        let clocks = config.clocks;
+        Self::chosen(clocks, registers.tccrb % 8, level) & !self.held()
     }
 }

@@ -15,7 +15,14 @@ use wave::kinds::Wave;
 ghost use Prim.Native.Nat.{_<_};
 ghost use mathlib.Core.Path.{_≡_};
 ghost use mathlib.Core.Bool.{cond};
-ghost use Rattle.counter.specs.Modes.{modeAt, kindAt, sourceAt, fixedAt, maxAt, divisorAt, modeOf, waveOf, divisorOf, prescalerOf, heldOf, runningOf};
+ghost use Rattle.counter.specs.Modes.{modeAt, kindAt, sourceAt, fixedAt, maxAt, divisorAt, chosen, modeOf, waveOf, divisorOf, prescalerOf, heldOf, runningOf};
+
+// Clocks that are no divisor: stopped, and the T pin's edges, past every divisor.
+const STOP: u32 = 0;
+
+const FALLING: u32 = 2048;
+
+const RISING: u32 = 2049;
 
 impl Timer {
     const NARROW_KINDS: [u8; 8] = [NORMAL, PC, CTC, FAST, NORMAL, PC, NORMAL, FAST];
@@ -81,9 +88,10 @@ impl Timer {
         0,
     ];
 
-    const SYNC_DIVISORS: [u32; 8] = [0, 1, 8, 64, 256, 1024, 0, 0];
+    // Clocks by select: stopped, the cycles a tick, or the T pin's edge.
+    const CS_SYNC: [u32; 8] = [STOP, 1, 8, 64, 256, 1024, FALLING, RISING];
 
-    const TIMER2_DIVISORS: [u32; 8] = [0, 1, 8, 32, 64, 128, 256, 1024];
+    const CS_TIMER2: [u32; 8] = [STOP, 1, 8, 32, 64, 128, 256, 1024];
 
     // The mode number: WGM bits of TCCRnB above those of TCCRnA.
     pub fn mode_at(wide: bool, tccra: u8, tccrb: u8) -> u8
@@ -149,8 +157,32 @@ impl Timer {
     {
         let i = select as usize;
         match clocks {
-            SYNC => Self::SYNC_DIVISORS[i],
-            _ => Self::TIMER2_DIVISORS[i],
+            SYNC => match select {
+                0..=5 => Self::CS_SYNC[i],
+                _ => 0,
+            },
+            _ => Self::CS_TIMER2[i],
+        }
+    }
+
+    // Does the clock take an edge of the T pin to a level.
+    pub fn chosen(clocks: u8, select: u8, level: u8) -> bool
+        requires { ⌜ select < 8 ⌝ }
+        ensures { λ r. ⌜ r ≡ chosen clocks select level ⌝ }
+    {
+        let i = select as usize;
+        match clocks {
+            SYNC => match select {
+                0..=5 => false,
+                _ => {
+                    let edge = Self::CS_SYNC[i];
+                    match edge {
+                        FALLING => level == 0,
+                        _ => level == 1,
+                    }
+                }
+            },
+            _ => false,
         }
     }
 

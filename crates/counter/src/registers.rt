@@ -10,7 +10,7 @@ use records::Log;
 use tick::happenings::Events;
 use tick::outputs::Outputs;
 use time::units::Cycle;
-use wave::kinds::CTC;
+use wave::kinds::non_pwm;
 ghost use Prim.Native.Nat.{_<_};
 ghost use mathlib.Core.Path.{_≡_};
 ghost use Rattle.counter.specs.Logs.{Logs};
@@ -151,7 +151,7 @@ impl Timer {
         ensures { λ r. ⌜ r ≡ immediate self ⌝ }
     {
         let config = self.config;
-        Self::kind_at(config.wide, self.mode()) <= CTC
+        non_pwm(Self::kind_at(config.wide, self.mode()))
     }
 
     // A compare takes a number in its buffer, and in N and C at once.

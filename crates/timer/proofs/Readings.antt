@@ -2,7 +2,7 @@
 use mathlib.Core.Path.{refl}
 use Rattle.records.specs.Records.{bytesOf, recordOf, recordsOf}
 use Rattle.config.specs.Config.{pairAt, controlAt, placeOf}
-use Rattle.counter.specs.Capture.{captures, captured, chosen, ticksOn}
+use Rattle.counter.specs.Capture.{captures, captured, ticksOn}
 use Rattle.wave.specs.Count.{topOf, falls, hits, overflows, loads, nextCount, nextDirection, atTop, atZero, rising}
 use Rattle.tick.specs.Tick.{eventsAt, raised, raises, line, lines, flagEntry, triggerEntry, flagLogOf, tickBy}
 use Rattle.wave.specs.Distance.{space, ahead, gapAt, gap}
@@ -10,7 +10,7 @@ use Rattle.counter.specs.Next.{nextAt, nextOf}
 use Rattle.counter.specs.Fresh.{freshOf}
 use Rattle.counter.specs.Halts.{halting, asleepAt, awakeAt, reducedTo, prescaledAt, tsmTo, routedTo, resetAt}
 use Rattle.counter.specs.Logs.{struck}
-use Rattle.counter.specs.Modes.{modeAt, kindAt, sourceAt, fixedAt, maxAt, togglesAt, divisorAt, modeOf, waveOf, divisorOf, heldOf, runningOf}
+use Rattle.counter.specs.Modes.{modeAt, kindAt, sourceAt, fixedAt, maxAt, togglesAt, divisorAt, chosen, modeOf, waveOf, divisorOf, heldOf, runningOf}
 use Rattle.tick.specs.Outputs.{pinEntry, recorded, onPin, acted, levelOf, matched, bottomed, matchesOf, bottomsOf, outputs}
 use Rattle.passage.specs.Passage.{one, ticks}
 use Rattle.counter.specs.Passage.{due, start, syncTo, syncOf, passed, synced, advanced}

@@ -1,15 +1,11 @@
 use borrow.Author.Needs.{needs}
-use Rattle.counter.specs.Capture.{chosen, ticksOn}
+use Rattle.counter.specs.Capture.{ticksOn}
 use Rattle.counter.proofs.state.Timer.ticks_on.Statement.{statement}
 use Rattle.counter.proofs.state.Timer.ticks_on.Tie as tie
 
 returns : tie.Need-returns
-unfolding chosen ticksOn
-returns c = simp (c .held .ensures)
+unfolding ticksOn
+returns c = simp (c .before .chosen .ensures, c .held .ensures)
 
 pub ticks-on-spec : {M : Type 1} → statement M
-ticks-on-spec =
-    tie.close
-    (tie.spec
-    (λ c κs. search needs)
-    returns)
+ticks-on-spec = tie.close (tie.spec (λ c κs. search needs) (λ c κs. search needs) returns)
