@@ -103,7 +103,7 @@ impl Timer {
         }
     }
 
-    /// A register's byte as a program reads it: a low byte fills TEMP, a high byte is TEMP.
+    /// A register's byte as a program reads it: of TCNTn and ICRn a low byte fills TEMP, a high byte is TEMP; OCRn passes TEMP by.
     #[inline]
     pub fn read(&mut self, address: u16, cycle: u64) -> Result<u8, Refusal> {
         self.byte(Call::Read(address), cycle)

@@ -1,4 +1,4 @@
-//! T1 to T10 of the scope: registers written, advances, and what is read then.
+//! T1 to T10 of the scope, and the reads of 2.5: registers written, advances, and what is read then.
 
 use paddlemauve::{records, Advanced, Config, Event, Record, Timer, EVENT};
 
@@ -8,6 +8,7 @@ const TCNT0: u16 = 0x46;
 const OCR0A: u16 = 0x47;
 const OCR0B: u16 = 0x48;
 const TCCR1B: u16 = 0x81;
+const TCNT1: u16 = 0x84;
 const ICR1: u16 = 0x86;
 const OCR1A: u16 = 0x88;
 const OCR1B: u16 = 0x8a;
@@ -141,4 +142,12 @@ fn t10_sleep() {
     assert_eq!(timer.wake(1000), Ok(()));
     assert_eq!(timer.state().count, 1);
     assert_eq!(timer.next(1000), Ok(Some(13764)));
+}
+
+/// 2.5 of 02: a compare is read past TEMP, so the count's high byte is still there.
+#[test]
+fn count_compare_count() {
+    let writes = [(OCR1A + 1, 0x56), (OCR1A, 0x78), (TCNT1 + 1, 0x12), (TCNT1, 0x34)];
+    let mut timer = fresh(&Config::M328P_TIMER1, &writes);
+    assert_eq!([TCNT1, OCR1A + 1, OCR1A, TCNT1 + 1].map(|byte| timer.read(byte, 0)), [0x34, 0x56, 0x78, 0x12].map(Ok));
 }

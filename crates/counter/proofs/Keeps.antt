@@ -2,7 +2,7 @@
 use Prim.Native.Nat.{ℕ, zero, suc, _+_, _*_, _%_, _≤_, _<_, _^_}
 use native.Mathlib.Omega.{arith}
 use mathlib.Core.Path.{_≡_, refl, sym, _∙_}
-use mathlib.Core.Bool.{Bool, true, false, cond, not, _&&_, false≢true}
+use mathlib.Core.Bool.{Bool, true, false, cond, not, _&&_, _||_, false≢true}
 use mathlib.Core.List.{List, [], _∷_}
 use mathlib.Core.Logic.{inl}
 use lib.ListN.{getD, set}
@@ -88,7 +88,7 @@ module _ (cycle : ℕ) (t : Timer) (v : Lasts cycle t) where
 
   pub read-keeps : (place : ℕ) → Lasts cycle (readTimer t place)
   unfolding readTimer
-  read-keeps place = cond-all (Lasts cycle) (leb place 9 && not (eqb (place % 2) 1) && t .config .wide) (temp-keeps _ (omega arith)) v
+  read-keeps place = cond-all (Lasts cycle) ((eqb place 0 || eqb place 8) && t .config .wide) (temp-keeps _ (omega arith)) v
 
   committed-max : (n : ℕ) → n < 256 → committed t n ≤ maxAt (t .config .wide)
   unfolding Lasts committed

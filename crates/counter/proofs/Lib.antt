@@ -5,5 +5,6 @@ pub mod Steps
 pub mod Advances
 pub mod Lasting
 pub mod Keeps
+pub mod Places
 pub mod Syncs
 pub mod Logging

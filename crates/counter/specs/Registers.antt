@@ -1,6 +1,6 @@
 -- Registers: what an address holds, what reading it yields, what writing it does (01, "Registers and capture").
 use Prim.Native.Nat.{ℕ, _+_, _*_, _/_, _%_}
-use mathlib.Core.Bool.{Bool, true, false, cond, not, _&&_}
+use mathlib.Core.Bool.{Bool, true, false, cond, not, _&&_, _||_}
 use lib.ListN.{getD, set}
 use lib.Bits.{bitAnd}
 use lib.Dec.{eqb, leb}
@@ -61,13 +61,13 @@ isHigh place = leb place 9 && eqb (place % 2) 1
 unfoldable pub peeked : Timer → ℕ → ℕ
 peeked t place = cond (leb place 9) (cond (eqb (place % 2) 1) (wordOf t place / 256 % 256) (wordOf t place % 256)) (controlOf t place)
 
--- a high byte reads as TEMP
+-- the high bytes of TCNTn and ICRn read as TEMP; a compare's bytes pass TEMP by (02, 2.5)
 unfoldable pub readValue : Timer → ℕ → ℕ
-readValue t place = cond (isHigh place) (t .registers .temp) (peeked t place)
+readValue t place = cond (eqb place 1 || eqb place 9) (t .registers .temp) (peeked t place)
 
--- and a low byte fills TEMP, in a wide timer
+-- and the low bytes of TCNTn and ICRn fill TEMP, in a wide timer
 unfoldable pub readTimer : Timer → ℕ → Timer
-readTimer t place = cond (leb place 9 && not (eqb (place % 2) 1) && t .config .wide) (tempTo t (wordOf t place / 256 % 256)) t
+readTimer t place = cond ((eqb place 0 || eqb place 8) && t .config .wide) (tempTo t (wordOf t place / 256 % 256)) t
 
 -- ---- writing
 

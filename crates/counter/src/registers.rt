@@ -173,7 +173,8 @@ impl Timer {
         }
     }
 
-    // A register's byte as a program reads it: a high byte is TEMP, a low one fills it in a wide timer.
+    // A register's byte as a program reads it. TCNTn and ICRn go through TEMP: a high byte is TEMP, a low one fills it in a
+    // wide timer. A compare passes TEMP by.
     pub fn read(self, place: u8) -> Read
         ensures { λ r. ⌜ (r .value ≡ readValue self place) × (r .timer ≡ readTimer self place) ⌝ }
     {
@@ -181,13 +182,12 @@ impl Timer {
         let registers = self.registers;
         let value = self.peek(place);
         match place {
-            0..=9 => {
-                if place % 2 == 1 {
-                    Read {
-                        value: registers.temp,
-                        timer: self,
-                    }
-                } else if config.wide {
+            1 | 9 => Read {
+                value: registers.temp,
+                timer: self,
+            },
+            0 | 8 => {
+                if config.wide {
                     Read {
                         value,
                         timer: self.with_temp((self.word(place) / 256 % 256) as u8),

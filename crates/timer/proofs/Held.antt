@@ -2,7 +2,7 @@
 use Prim.Native.Nat.{ℕ, _%_}
 use native.Mathlib.Omega.{arith}
 use mathlib.Core.Path.{_≡_, refl, ap, _∙_}
-use mathlib.Core.Bool.{Bool, true, false, not, _&&_, and-false, true≢false}
+use mathlib.Core.Bool.{Bool, true, false, not, _&&_, _||_, and-false, true≢false}
 use lib.Dec.{eqb, leb}
 use lib.ListN.{length}
 use borrow.Author.Tests.{eqb-false, lt-leb}
@@ -67,7 +67,7 @@ works-stay : (t x : Timer) (c : Call) (cycle : ℕ) → x .config ≡ t .config 
 unfolding Stays StaysIn setsCount works readTimer edgeTicks ticksOn captured routedTo asleepAt awakeAt reducedTo tsmTo prescaledAt
 works-stay t x call.Advance cycle g h e = refl
 works-stay t x call.Next cycle g h e = refl
-works-stay t x (call.Read address) cycle g h e = cond-all (Stays _) (leb (placed x address) 9 && not (eqb (placed x address % 2) 1) && x .config .wide) refl refl
+works-stay t x (call.Read address) cycle g h e = cond-all (Stays _) ((eqb (placed x address) 0 || eqb (placed x address) 8) && x .config .wide) refl refl
 works-stay t x (call.Peek address) cycle g h e = refl
 works-stay t x (call.Write address value) cycle g h e = written-stays x (placed x address) (value % 256) (rw g e)
 works-stay t x call.Tifr cycle g h e = refl

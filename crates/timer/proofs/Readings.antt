@@ -1,4 +1,4 @@
--- T1 to T10 hold of the definitions, by computation.
+-- The readings hold of the definitions, by computation.
 use mathlib.Core.Path.{refl}
 use Rattle.records.specs.Records.{bytesOf, recordOf, recordsOf}
 use Rattle.config.specs.Config.{pairAt, controlAt, placeOf}

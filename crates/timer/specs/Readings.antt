@@ -1,4 +1,4 @@
--- The readings T1 to T10 on the bench (01, "Readings on the bench"): for each the timer, the calls, and what they must answer.
+-- The readings T1 to T10 on the bench (01, "Readings on the bench") and that of 02, 2.5: for each the timer, the calls, and what they must answer.
 use Prim.Native.Nat.{ℕ}
 use mathlib.Core.Bool.{true, false}
 use mathlib.Core.List.{List, [], _∷_, _++_}
@@ -13,7 +13,7 @@ use Rattle.counter.specs.declared.state.Timer.{Timer}
 use Rattle.counter.specs.Fresh.{freshOf}
 use Rattle.passage.specs.Passage.{ticks}
 use Rattle.timer.specs.declared.calls.Call.{Call}
-use Rattle.timer.specs.declared.calls.Call.the-variants.{Advance, Next, Peek, Write, Edge, Tifr, Sleep, Wake}
+use Rattle.timer.specs.declared.calls.Call.the-variants.{Advance, Next, Read, Peek, Write, Edge, Tifr, Sleep, Wake}
 use Rattle.answers.specs.Answers.{Values, none, byte, event, Told}
 use Rattle.timer.specs.Calls.{answered}
 
@@ -94,6 +94,10 @@ sets address value cycle = record { call = Write address value; cycle = cycle; n
 abbrev pub reads : ℕ → ℕ → ℕ → Step
 reads address cycle value = record { call = Peek address; cycle = cycle; number = 0; values = byte value; bytes = [] }
 
+-- a register read as a program does
+abbrev pub gives : ℕ → ℕ → ℕ → Step
+gives address cycle value = record { call = Read address; cycle = cycle; number = 0; values = byte value; bytes = [] }
+
 -- the next event asked for
 abbrev pub announces : ℕ → ℕ → Step
 announces cycle next = record { call = Next; cycle = cycle; number = 0; values = event (At (record { 0 = next })); bytes = [] }
@@ -131,7 +135,7 @@ pub record Reading : Type 0 where
 abbrev pub ctc : List Step
 ctc = sets 0x44 0x02 0 ∷ sets 0x47 124 0 ∷ sets 0x48 200 0 ∷ sets 0x45 0x03 0 ∷ []
 
--- T1 to T10
+-- T1 to T10; then a door program's reads of count, compare and count (02, 2.5), in a mode that buffers the compare
 abbrev pub readings : List Reading
 readings =
     record {
@@ -184,6 +188,12 @@ readings =
           sets 0x47 200 0 ∷ sets 0x48 200 0 ∷ sets 0x45 0x03 0 ∷ record { call = Sleep 2; cycle = 100; number = 0; values = none; bytes = [] }
           ∷ record { call = Wake; cycle = 1000; number = 0; values = none; bytes = [] } ∷ reads 0x46 1000 1 ∷ announces 1000 13764 ∷ [];
     }
+    ∷ record {
+      timer = timer1;
+      steps =
+          sets 0x80 0x01 0 ∷ sets 0x81 0x08 0 ∷ sets 0x89 0x56 0 ∷ sets 0x88 0x78 0 ∷ sets 0x85 0x12 0 ∷ sets 0x84 0x34 0
+          ∷ gives 0x84 0 0x34 ∷ gives 0x89 0 0x56 ∷ gives 0x88 0 0x78 ∷ gives 0x85 0 0x12 ∷ [];
+    }
     ∷ []
 
 -- every reading, as the plain counter plays it
@@ -191,6 +201,6 @@ unfoldable pub replayed : List Reading → List Reading
 replayed [] = []
 replayed (r ∷ rs) = record { timer = r .timer; steps = played (freshOf (r .timer)) (r .steps) } ∷ replayed rs
 
--- Readings: the plain counter answers T1 to T10 as the bench does, by one claim over the list
+-- Readings: the plain counter answers them all as the bench does, by one claim over the list
 abbrev pub Readings : Type 0
 Readings = replayed readings ≡ readings

@@ -1,5 +1,5 @@
 
-// Appended by the oracle: what it must see of the private state, and the two steps it must take alone.
+// Appended by the oracle: what it must see of the private state, and the steps it must take alone.
 
 /// The tag of the timer's one event.
 pub const EVENT: u8 = EV_TICK;
@@ -76,6 +76,18 @@ impl Timer {
     /// Runs `schedule` alone.
     pub fn reschedule(&mut self, cx: &mut Cx) {
         self.schedule(cx);
+    }
+
+    pub fn fill_temp(&mut self, temp: u8) {
+        self.temp = temp;
+    }
+
+    /// The buffer behind a byte of a compare register.
+    pub fn compare(&self, addr: u16) -> Option<u32> {
+        let bytes = if self.c.wide { 2 } else { 1 };
+        let lows = [self.c.ocr_a, self.c.ocr_b, self.c.c_unit.map(|u| u.ocr)];
+        let channel = lows.iter().position(|low| low.is_some_and(|low| (low..low + bytes).contains(&addr)))?;
+        Some(self.ocr_buf[channel])
     }
 
     /// Whether `addr` is the high byte of a 16-bit register.

@@ -1,7 +1,7 @@
 //! Each call as the Rust takes it.
 
 use mcs::irqflags::{IrqFlags, IrqFlagsConfig};
-use mcs::machine::{Peripheral, Trigger, TIFR, TIMSK};
+use mcs::machine::{Cx, Peripheral, Trigger, TIFR, TIMSK};
 use mcs::timer::{Timer, EVENT};
 
 use super::bench::Bench;
@@ -19,7 +19,7 @@ impl Bench {
             Call::Next => self.cpu.cycles = cycle,
             Call::Reset => self.with(cycle, |timer, cx| timer.reset(cx)),
             Call::Wake => self.with(cycle, |timer, cx| timer.on_wake(cx)),
-            Call::Read(addr) => return Some(self.with(cycle, |timer, cx| timer.read(addr, cx))),
+            Call::Read(addr) => return Some(self.with(cycle, |timer, cx| read(timer, addr, follow, cx))),
             Call::Peek(addr) => return Some(self.with(cycle, |timer, cx| timer.peek(addr, cx))),
             Call::Write(addr, value) => self.with(cycle, |timer, cx| timer.write(addr, value, cx)),
             Call::Tifr => return Some(self.with(cycle, |timer, cx| flags(timer, follow).read(TIFR, cx))),
@@ -36,6 +36,19 @@ impl Bench {
         }
         None
     }
+}
+
+/// A register as a program reads it. By the sheet a compare passes TEMP by: the Rust reads it with the compare's own high byte in
+/// TEMP, which is then put back.
+fn read(timer: &mut Timer, addr: u16, follow: Follow, cx: &mut Cx) -> u8 {
+    let Some(compare) = timer.compare(addr).filter(|_| follow == Follow::Sheet) else {
+        return timer.read(addr, cx);
+    };
+    let temp = timer.inside().temp;
+    timer.fill_temp((compare >> 8) as u8);
+    let value = timer.read(addr, cx);
+    timer.fill_temp(temp);
+    value
 }
 
 /// The Rust's owner of TIFR and TIMSK. It keeps the timer's own bits of TIMSK; for the sheet a further

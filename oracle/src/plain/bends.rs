@@ -85,7 +85,6 @@ bends! {
     ControlKeepsDrives "control-keeps-drives" "a control write does not reapply the drives",
     HighReadDirect "high-read-direct" "reading a high byte passes TEMP by",
     LowReadKeepsTemp "low-read-keeps-temp" "reading a low byte does not fill TEMP",
-    CompareReadWithoutTemp "compare-read-without-temp" "sheet: reading OCRn neither uses nor fills TEMP",
     PeekFillsTemp "peek-fills-temp" "peek fills TEMP",
     PeekKeepsSync "peek-keeps-sync" "peek reckons ahead on a copy",
     CaptureWriteGated "capture-write-gated" "sheet: an ICR write lands only where ICR is TOP",

@@ -7,6 +7,11 @@ use super::tables::Top;
 use super::timer::Timer;
 use crate::script::Layout;
 
+/// A compare is read without TEMP (02, 2.5).
+fn passes_temp(word: Word) -> bool {
+    matches!(word, Word::Compare(_))
+}
+
 impl Timer {
     fn word(&self, word: Word) -> u32 {
         match word {
@@ -33,7 +38,7 @@ impl Timer {
     pub fn read(&mut self, register: Register, cycle: u64, log: &mut Log) -> u8 {
         match register {
             Register::High(word) => {
-                let direct = self.bent(Bend::HighReadDirect) || self.passes_temp(word);
+                let direct = self.bent(Bend::HighReadDirect) || passes_temp(word);
                 if direct {
                     (self.word(word) >> 8) as u8
                 } else {
@@ -42,7 +47,7 @@ impl Timer {
             }
             Register::Low(word) => {
                 self.pass(cycle, log);
-                if self.setup.config.wide && !self.bent(Bend::LowReadKeepsTemp) && !self.passes_temp(word) {
+                if self.setup.config.wide && !self.bent(Bend::LowReadKeepsTemp) && !passes_temp(word) {
                     self.temp = (self.word(word) >> 8) as u8;
                 }
                 self.word(word) as u8
@@ -52,10 +57,6 @@ impl Timer {
                 self.control(register)
             }
         }
-    }
-
-    fn passes_temp(&self, word: Word) -> bool {
-        self.bent(Bend::CompareReadWithoutTemp) && matches!(word, Word::Compare(_))
     }
 
     pub fn peek(&mut self, register: Register, cycle: u64, log: &mut Log) -> u8 {

@@ -1,25 +1,27 @@
+use mathlib.Core.Logic.{inl, inr}
+use mathlib.Core.Path.{refl}
 use Rattle.counter.specs.Registers.{readValue, readTimer}
-use borrow.Author.Tests.{le-leb, lt-leb, eq-eqb, ne-eqb}
-use native.Mathlib.Omega.{arith}
+use borrow.Author.Tests.{ne-eqb}
 use borrow.Author.Needs.{needs}
+use Rattle.counter.proofs.Places.{one-of, none-of}
 use Rattle.counter.proofs.state.Timer.read.Statement.{statement}
 use Rattle.counter.proofs.state.Timer.read.Tie as tie
 
 returns : tie.Need-returns
 unfolding readValue readTimer
-returns c = (simp (le-leb (c .before .before .before .before .before .args .place) 9 (omega arith), eq-eqb _ _ (c .if2 .taken)), simp (le-leb (c .before .before .before .before .before .args .place) 9 (omega arith), eq-eqb _ _ (c .if2 .taken)))
+returns c = (simp (one-of _ _ _ (c .match .keys1)), simp (none-of _ _ 0 8 _ (c .match .keys1) refl refl))
 
 returns-2 : tie.Need-returns-2
 unfolding readValue readTimer
-returns-2 c = (simp (le-leb (c .before .before .before .before .before .before .before .before .args .place) 9 (omega arith), ne-eqb _ _ (c .before .before .before .if2 .left), c .before .before .before .before .before .peek .ensures), simp (le-leb (c .before .before .before .before .before .before .before .before .args .place) 9 (omega arith), ne-eqb _ _ (c .before .before .before .if2 .left), c .before .before .if3 .taken, c .with-temp .ensures, c .before .word .ensures))
+returns-2 c = (simp (none-of _ _ 1 9 _ (c .before .before .before .match .keys2) refl refl, c .before .before .before .before .peek .ensures), simp (one-of _ _ _ (c .before .before .before .match .keys2), c .before .before .if1 .taken, c .with-temp .ensures, c .before .word .ensures))
 
 returns-3 : tie.Need-returns-3
 unfolding readValue readTimer
-returns-3 c = (simp (le-leb (c .before .before .before .before .before .before .args .place) 9 (omega arith), ne-eqb _ _ (c .before .if2 .left), c .before .before .before .peek .ensures), simp (le-leb (c .before .before .before .before .before .before .args .place) 9 (omega arith), ne-eqb _ _ (c .before .if2 .left), c .if3 .left))
+returns-3 c = (simp (none-of _ _ 1 9 _ (c .before .match .keys2) refl refl, c .before .before .peek .ensures), simp (one-of _ _ _ (c .before .match .keys2), c .if1 .left))
 
 returns-4 : tie.Need-returns-4
 unfolding readValue readTimer
-returns-4 c = (simp (lt-leb (c .before .before .before .before .args .place) 9 (omega arith), c .before .peek .ensures), simp (lt-leb (c .before .before .before .before .args .place) 9 (omega arith)))
+returns-4 c = (simp (ne-eqb (c .before .before .before .before .args .place) 1 (λ e. c .match .rest .0 .1 (inl e)), ne-eqb (c .before .before .before .before .args .place) 9 (λ e. c .match .rest .0 .1 (inr e)), c .before .peek .ensures), simp (ne-eqb (c .before .before .before .before .args .place) 0 (λ e. c .match .rest .1 (inl e)), ne-eqb (c .before .before .before .before .args .place) 8 (λ e. c .match .rest .1 (inr e))))
 
 pub read-spec : {M : Type 1} → statement M
 read-spec =
