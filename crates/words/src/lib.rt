@@ -49,13 +49,13 @@ pub struct Pair {
     pub value: usize,
 }
 
-// The first place from one on that holds a byte, else the text's end.
-pub fn find(text: &[u8], from: usize, byte: u8) -> usize
+// The first place from one on that holds a byte, or where another is wanted holds another, else the text's end.
+fn seek(text: &[u8], from: usize, byte: u8, another: bool) -> usize
     ensures { λ r. ⌜ (min from (length (now (text .entry))) ≤ r) × (r ≤ length (now (text .entry))) ⌝ }
 {
     let mut i = from;
     while i < text.len() {
-        if text[i] == byte {
+        if (text[i] == byte) != another {
             return i;
         }
         i += 1;
@@ -63,18 +63,18 @@ pub fn find(text: &[u8], from: usize, byte: u8) -> usize
     text.len()
 }
 
+// The first place from one on that holds a byte, else the text's end.
+pub fn find(text: &[u8], from: usize, byte: u8) -> usize
+    ensures { λ r. ⌜ (min from (length (now (text .entry))) ≤ r) × (r ≤ length (now (text .entry))) ⌝ }
+{
+    seek(text, from, byte, false)
+}
+
 // The first place from one on that holds no space, else the text's end.
 pub fn skip(text: &[u8], from: usize) -> usize
     ensures { λ r. ⌜ (min from (length (now (text .entry))) ≤ r) × (r ≤ length (now (text .entry))) ⌝ }
 {
-    let mut i = from;
-    while i < text.len() {
-        if text[i] != b' ' {
-            return i;
-        }
-        i += 1;
-    }
-    text.len()
+    seek(text, from, b' ', true)
 }
 
 // How many words stand from a place on.
