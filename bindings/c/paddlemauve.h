@@ -26,7 +26,7 @@ struct pm_config {
 /* A timer. It comes from paddlemauve_start and is changed by paddlemauve_call alone. */
 struct pm_timer {
     struct pm_config config;
-    struct { uint32_t count; int32_t direction; bool blocked; } counter;
+    struct { uint32_t count; int32_t direction; bool blocked; uint64_t odometer; } counter; /* odometer: counts made since the reset */
     uint32_t ocr[3], buffer[3];
     uint8_t oc[3];
     struct { uint8_t enables[3], values[3]; } drives;

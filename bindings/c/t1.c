@@ -29,7 +29,7 @@ int main(void) {
 
     struct pm_timer was = begun.timer;
     assert(paddlemauve_call(&begun.timer, (struct pm_asked){.kind = 18, .cycle = 1}, area).number == PM_NO_CALL);
-    assert(begun.timer.counter.count == 1 && begun.timer.flags.tifr == 6 && was.clock.latest == begun.timer.clock.latest);
+    assert(begun.timer.counter.count == 1 && begun.timer.counter.odometer == 1 && begun.timer.flags.tifr == 6 && was.clock.latest == begun.timer.clock.latest);
 
     puts("T1 from C");
     return 0;

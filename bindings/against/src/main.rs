@@ -48,7 +48,7 @@ fn main() {
 
 /// Both sides over one script; the first line on which they differ.
 fn script(lines: &[String], figures: &mut Figures) -> Result<(), String> {
-    let mut judge = Judge::new(Follow::Sheet);
+    let mut judge = Judge::new(Follow::Sheet).counting();
     let mut ours = Ours::default();
     for (n, line) in lines.iter().enumerate() {
         match read_line(line.as_bytes()) {

@@ -141,5 +141,6 @@ fn shown(config: &script::Config, t: &paddlemauve::State) -> State {
         tsm: t.tsm,
         route: t.routed,
         latest: t.latest,
+        odometer: Some(t.odometer),
     }
 }

@@ -53,6 +53,7 @@ const READING: State = State {
     reduced: true,
     tsm: false,
     routed: true,
+    odometer: 9,
 };
 
 /// The capture's two records.

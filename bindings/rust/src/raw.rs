@@ -55,6 +55,7 @@ pub struct Counter {
     pub count: u32,
     pub direction: i32,
     pub blocked: bool,
+    pub odometer: u64,
 }
 
 #[repr(C)]

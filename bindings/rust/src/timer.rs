@@ -39,6 +39,8 @@ pub struct State {
     pub reduced: bool,
     pub tsm: bool,
     pub routed: bool,
+    /// The counts made since the reset, modulo 2^64.
+    pub odometer: u64,
 }
 
 /// How an advance ended, with the bytes written.
@@ -180,6 +182,11 @@ impl Timer {
         self.recorded(Call::Reset, cycle, area)
     }
 
+    /// The counts made since the reset, prescaled ticks and T-pin ticks alike, modulo 2^64, as the timer stands.
+    pub fn odometer(&self) -> u64 {
+        self.raw.counter.odometer
+    }
+
     pub fn state(&self) -> State {
         let raw::Timer { counter, ocr, buffer, oc, drives, registers, flags, clock, halts, .. } = self.raw;
         State {
@@ -203,6 +210,7 @@ impl Timer {
             reduced: halts.reduced,
             tsm: halts.tsm,
             routed: halts.routed,
+            odometer: counter.odometer,
         }
     }
 

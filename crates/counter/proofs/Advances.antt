@@ -186,11 +186,11 @@ struck-ready t cycle v es em =
       bytes = omega arith;
     }
 
-pub strikes : (t : Timer) (cycle : ℕ) {s : Setting} {m : Moving} {x : Aside} {r : Timer} → s ≡ settingOf t → m ≡ movingOf t → Made s (standingAt cycle) (begunAt m 0 0) x → r ≡ settle t (x .after .moving)
+pub strikes : (t : Timer) (cycle : ℕ) {s : Setting} {m : Moving} {x : Aside} {r : Timer} → Valid t → s ≡ settingOf t → m ≡ movingOf t → Made s (standingAt cycle) (begunAt m 0 0) x → r ≡ settle t (x .after .moving)
     → Logs (struck t) cycle (record { timer = r; log = x .log })
 unfolding cycleAt struck
-strikes t cycle {s} {m} es em h er =
-    let n : linear (s .wave) 0 m ≡ movingOf t = linear-none (s .wave) m ∙ em in
+strikes t cycle {s} {m} v es em h er =
+    let n : linear (s .wave) 0 m ≡ movingOf t = linear-none (s .wave) m (rw em (v .odometer)) ∙ em in
     let k : cycleAt (standingAt cycle) 1 ≡ cycle = omega arith in
     record {
       timer = er ∙ rw (h .moving, n, es);

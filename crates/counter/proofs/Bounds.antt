@@ -100,6 +100,7 @@ valid-sound t v =
         compares = v .compares;
         count = v .count;
         turns = v .turns;
+        odometer = v .odometer;
       };
       buffers = v .buffers;
     }

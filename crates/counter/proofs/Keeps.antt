@@ -128,7 +128,7 @@ not-both e z = absurd (false≢true (sym e ∙ z))
 
 blank-valid : (c : Config) (f : Flags) (d : Drives) (k : Clock) → accepted c ≡ true → k .origin .0 ≤ k .sync .0 → k .sync .0 ≤ k .latest .0 → k .latest .0 < 2 ^ 62 → Valid (blank c f d k)
 blank-valid c f d k e o s l =
-    record { accepted = e; count = omega arith; turns = inl refl; compares = none; buffers = none; icr = omega arith; temp = omega arith; origin = o; sync = s; latest = l; slept = not-both refl }
+    record { accepted = e; count = omega arith; turns = inl refl; odometer = omega arith; compares = none; buffers = none; icr = omega arith; temp = omega arith; origin = o; sync = s; latest = l; slept = not-both refl }
   where
     none : (ch : ℕ) → getD (0 ∷ 0 ∷ 0 ∷ []) ch 0 ≤ maxAt (c .wide)
     none zero = omega arith

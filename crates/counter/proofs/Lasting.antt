@@ -42,7 +42,7 @@ module _ (s : Setting) (p : Prescaler) (fits : ℕ → Bool) where
 settled : (t : Timer) (m : Moving) (sync : ℕ) → Valid t → Sound (settingOf t) m → t .clock .origin .0 ≤ sync → sync < 2 ^ 62 → Valid (syncTo (settle t m) sync)
 unfolding syncTo settingAt waveOf
 settled t m sync v k o u =
-    record { accepted = v .accepted; temp = v .temp; slept = (λ e. let z = v .slept e in (z .0, omega arith)); count = k .steady .count; turns = k .steady .turns; compares = k .steady .compares; buffers = v .buffers; icr = v .icr; origin = o; sync = omega arith; latest = omega arith }
+    record { accepted = v .accepted; temp = v .temp; slept = (λ e. let z = v .slept e in (z .0, omega arith)); count = k .steady .count; turns = k .steady .turns; odometer = k .steady .odometer; compares = k .steady .compares; buffers = v .buffers; icr = v .icr; origin = o; sync = omega arith; latest = omega arith }
 
 -- the sync cycle of a run that has at most the ticks due
 sync-within : (t : Timer) (cycle : ℕ) (r : Run) → Valid t → t .clock .latest .0 ≤ cycle → r .at ≤ ticksAt (prescalerOf t) (t .clock .sync .0) + due t cycle → (t .clock .origin .0 ≤ syncOf t cycle r) × (syncOf t cycle r ≤ cycle)

@@ -43,7 +43,7 @@ pub syncs-idle : (t : Timer) (cycle : ℕ) {r : Timer} → Quiet t cycle → run
 unfolding due
 syncs-idle t cycle v e er =
     let z : due t cycle ≡ 0 = rw e in
-    syncs t cycle v (er ∙ rw (z, linear-none))
+    syncs t cycle v (er ∙ rw (z, linear-none (waveOf t (modeOf t)) (movingOf t) (v .0 .odometer)))
 
 -- it runs
 module _ {t : Timer} {cycle : ℕ} {p : Prescaler} {w : Wave} {m : Moving} {g a e : ℕ} (x : Begun t cycle p w m g a e) (q : Quiet t cycle) where

@@ -15,11 +15,11 @@ use Rattle.counter.specs.declared.state.Flags.{Flags}
 use Rattle.counter.specs.declared.state.Timer.{Timer}
 use Rattle.counter.specs.Valid.{Valid}
 
--- a timer with its registers clear, counting up from 0, and nothing holding it, of some flags, drives and clock
+-- a timer with its registers and its odometer clear, counting up from 0, and nothing holding it, of some flags, drives and clock
 abbrev pub blank : Config → Flags → Drives → Clock → Timer
 blank c f d k = record {
   config = c;
-  counter = record { count = 0; direction = pos 1; blocked = false };
+  counter = record { count = 0; direction = pos 1; blocked = false; odometer = 0 };
   ocr = 0 ∷ 0 ∷ 0 ∷ [];
   buffer = 0 ∷ 0 ∷ 0 ∷ [];
   oc = 0 ∷ 0 ∷ 0 ∷ [];

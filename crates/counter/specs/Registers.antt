@@ -23,9 +23,9 @@ tempTo t temp = registersTo t (record { tccra = t .registers .tccra; tccrb = t .
 abbrev pub icrTo : Timer → ℕ → Timer
 icrTo t icr = registersTo t (record { tccra = t .registers .tccra; tccrb = t .registers .tccrb; icr = icr; temp = t .registers .temp })
 
--- TCNTn takes a count, and the next match is blocked
+-- TCNTn takes a count, and the next match is blocked; no count is made
 abbrev pub countTo : Timer → ℕ → Timer
-countTo t count = record { config = t .config; counter = record { count = count; direction = t .counter .direction; blocked = true }; ocr = t .ocr; buffer = t .buffer; oc = t .oc; drives = t .drives; registers = t .registers; flags = t .flags; clock = t .clock; halts = t .halts }
+countTo t count = record { config = t .config; counter = record { count = count; direction = t .counter .direction; blocked = true; odometer = t .counter .odometer }; ocr = t .ocr; buffer = t .buffer; oc = t .oc; drives = t .drives; registers = t .registers; flags = t .flags; clock = t .clock; halts = t .halts }
 
 -- N and C take compares at once
 unfoldable pub immediate : Timer → Bool

@@ -13,6 +13,7 @@ pub record Valid (t : Timer) : Type 0 where
   pub accepted : accepted (t .config) ≡ true
   pub count : t .counter .count ≤ maxAt (t .config .wide)
   pub turns : Turns (t .counter .direction)
+  pub odometer : t .counter .odometer < 2 ^ 64
   pub compares : (ch : ℕ) → getD (t .ocr) ch 0 ≤ maxAt (t .config .wide)
   pub buffers : (ch : ℕ) → getD (t .buffer) ch 0 ≤ maxAt (t .config .wide)
   pub icr : t .registers .icr ≤ maxAt (t .config .wide)

@@ -29,6 +29,7 @@ impl Timer {
             count: 0,
             direction: 1,
             blocked: false,
+            odometer: 0,
         };
         let drives = Drives {
             enables: [0, 0, 0],

@@ -141,8 +141,10 @@ fn clock(page: &mut Page, from: usize, t: Timer) -> usize {
 
 // Puts the timer.
 pub fn state(page: &mut Page, from: usize, t: Timer) -> usize {
+    let counter = t.counter;
     let at = counts(page, from, t);
     let at = outputs(page, at, t);
     let at = flags(page, at, t);
-    clock(page, at, t)
+    let at = clock(page, at, t);
+    number(page, at, b" odometer=", counter.odometer)
 }

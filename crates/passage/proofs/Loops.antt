@@ -13,6 +13,7 @@ use borrow.Author.Tests.{le-leb, lt-leb, leb-true, leb-false, ltb-true, lt-ltb}
 use Rattle.records.specs.Records.{recordsOf}
 use Rattle.time.specs.declared.units.Prescaler.{Prescaler}
 use Rattle.time.specs.Units.{cycleAt}
+use Rattle.wave.specs.Count.{falls, hits, atTop, atZero, rising, nextCount, counted, Turns}
 use Rattle.wave.specs.Distance.{gap}
 use Rattle.time.proofs.Clocks.{cycle-mono}
 use Rattle.passage.specs.declared.Progress.{Progress}
@@ -21,9 +22,9 @@ use Rattle.passage.specs.declared.Finished.{Finished}
 use Rattle.tick.specs.declared.tick.Ticked.{Ticked}
 use Rattle.tick.specs.declared.setting.Moving.{Moving}
 use Rattle.tick.specs.declared.setting.Setting.{Setting}
-use Rattle.tick.specs.Tick.{tick, Worked}
+use Rattle.tick.specs.Tick.{eventsAt, tickBy, tick, Worked}
 use Rattle.tick.specs.Skip.{linear}
-use Rattle.passage.specs.Passage.{Run, one, ticks, quiet, standing, Ready, Ran, Made, Finishes}
+use Rattle.passage.specs.Passage.{odometerTo, Run, one, ticks, quiet, standing, Ready, Ran, Made, Finishes}
 use Rattle.tick.specs.Sound.{Sound}
 use Rattle.tick.proofs.Choices.{and-left}
 use Rattle.tick.proofs.Bounds.{gap-max}
@@ -328,3 +329,76 @@ joined {s} {p} {a} {end} {before} {b} {area} {r} {after} h l n f =
       room = omega arith;
       upto = f .upto;
     }
+
+-- ---- run's loop, in which the odometer stands still
+-- a tick, a linear step and the gap do not look at it
+module _ (s : Setting) (m : Moving) (o : ℕ) where
+  tick-dialled : tick s (odometerTo m o) ≡ record { moving = odometerTo (tick s m .moving) (counted o 1); log = tick s m .log }
+  unfolding tickBy eventsAt hits falls atTop atZero rising nextCount
+  tick-dialled = refl
+
+  step-dialled : (n : ℕ) → linear (s .wave) n (odometerTo m o) ≡ odometerTo (linear (s .wave) n m) (counted o n)
+  unfolding linear falls
+  step-dialled n = refl
+
+  gap-dialled : gap (s .wave) (odometerTo m o .counter) (m .ocr) ≡ gap (s .wave) (m .counter) (m .ocr)
+  unfolding gap falls
+  gap-dialled = refl
+
+  dialled-sound : Sound s m → o < 2 ^ 64 → Sound s (odometerTo m o)
+  dialled-sound v h =
+      let y = v .steady in
+      record { steady = record { least = y .least; most = y .most; fixed = y .fixed; icr = y .icr; compares = y .compares; count = y .count; turns = y .turns; odometer = h }; buffers = v .buffers }
+
+-- where the run stands that its loop has with the odometer as it was
+abbrev pub lagging : Progress → Moving → ℕ → ℕ → ℕ → Progress
+lagging a m gap at to = record { moving = odometerTo m (counted (a .moving .counter .odometer) (at - a .at .0)); gap = gap; at = record { 0 = at }; to = to }
+
+-- what the loop keeps
+pub record Lags (s : Setting) (p : Prescaler) (a : Progress) (end : ℕ) (before : List ℕ) (m : Moving) (gap at to : ℕ) (area : List ℕ) : Type 0 where
+  pub going : Going s p a end before (lagging a m gap at to) area
+  pub first : First a (lagging a m gap at to)
+  pub begun : m .counter .odometer ≡ a .moving .counter .odometer
+  pub fits : a .moving .counter .odometer < 2 ^ 64
+
+pub lags-begin : {s : Setting} {p : Prescaler} {a : Progress} {end : ℕ} (before : List ℕ) → Ready s p a end (length before) → Lags s p a end before (a .moving) (a .gap) (a .at .0) (a .to) before
+lags-begin {s} {p} {a} {end} before r =
+    let h = r .sound .steady .odometer in
+    let z : counted (a .moving .counter .odometer) (a .at .0 - a .at .0) ≡ a .moving .counter .odometer = omega arith in
+    record { going = rw z (begins before r); first = rw z (begins-first a); begun = refl; fits = h }
+
+module _ {s : Setting} {p : Prescaler} {a : Progress} {end : ℕ} {before : List ℕ} {m : Moving} {gap₀ at to : ℕ} {area : List ℕ} (l : Lags s p a end before m gap₀ at to area) where
+  pub lags-on : a .at .0 ≤ at
+  lags-on = ⊎-elim (λ w. omega arith) (λ w. omega arith) (l .first .either)
+
+  pub lags-sound : Sound s m
+  lags-sound = dialled-sound s (lagging a m gap₀ at to .moving) (m .counter .odometer) (l .going .ready .sound) (let e = l .begun in let h = l .fits in omega arith)
+
+  pub lags-gap : gap₀ ≤ gap (s .wave) (m .counter) (m .ocr)
+  lags-gap = rw (gap-dialled s m (counted (a .moving .counter .odometer) (at - a .at .0))) at (l .going .ready .gap)
+
+  pub lags-near : {near : Moving} → near ≡ linear (s .wave) gap₀ m → Sound s near
+  lags-near e = rw e (step-keeps s gap₀ m lags-sound lags-gap)
+
+  pub lags-event : {near k : Moving} → near ≡ linear (s .wave) gap₀ m → k ≡ tick s near .moving → Sound s k
+  lags-event {near} e n = rw n (tick-keeps s near (lags-near e))
+
+  pub lags-turn : {near next : Moving} {stamp : ℕ} {w : Ticked} {gap₁ : ℕ} {area₁ : List ℕ}
+      → (gap₀ < end - at) × (110 ≤ length area - to)
+      → near ≡ linear (s .wave) gap₀ m
+      → stamp ≡ cycleAt p (at + gap₀ + 1)
+      → Worked (tick s near) stamp to area w area₁
+      → next ≡ odometerTo (w .moving) (a .moving .counter .odometer)
+      → gap₁ ≡ gap (s .wave) (next .counter) (next .ocr)
+      → Lags s p a end before next gap₁ (at + gap₀ + 1) (w .to) area₁
+  lags-turn {near} {next} {stamp} {w} {gap₁} {area₁} h en es k ex eg =
+      let o = lags-on in
+      let real : ℕ = counted (a .moving .counter .odometer) (at - a .at .0) in
+      let near₁ : Moving = odometerTo near (counted real gap₀) in
+      let w₁ : Ticked = record { moving = odometerTo (w .moving) (counted (counted real gap₀) 1); to = w .to } in
+      let k₁ : Worked (tick s near₁) stamp to area w₁ area₁
+      = rw (tick-dialled s near (counted real gap₀)) (record { moving = ap (λ (q : Moving). odometerTo q (counted (counted real gap₀) 1)) (k .moving); to = k .to; area = k .area; most = k .most }) in
+      let g₁ : gap₁ ≡ gap (s .wave) (w .moving .counter) (w .moving .ocr) = eg ∙ rw ex (gap-dialled s (w .moving) (a .moving .counter .odometer)) in
+      let t = turned (l .going) h (rw en (sym (step-dialled s m real gap₀))) es k₁ (g₁ ∙ sym (gap-dialled s (w .moving) (counted (counted real gap₀) 1))) in
+      let z : counted (a .moving .counter .odometer) (at + gap₀ + 1 - a .at .0) ≡ counted (counted real gap₀) 1 = omega arith in
+      record { going = rw (ex, z) t; first = goes-first (l .first); begun = ap (λ (q : Moving). q .counter .odometer) ex; fits = l .fits }

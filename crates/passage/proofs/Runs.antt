@@ -1,5 +1,5 @@
 -- Tick by tick and by events: one run.
-use Prim.Native.Nat.{ℕ, zero, suc, _+_, _-_, _≤_, _<_}
+use Prim.Native.Nat.{ℕ, zero, suc, _+_, _-_, _≤_, _<_, _^_}
 use native.Mathlib.Omega.{arith}
 use native.Mathlib.Nat.{add-zero, zero-add, suc-add, le-refl}
 use native.Mathlib.Numerals.{add-one}
@@ -63,13 +63,13 @@ module _ (s : Setting) (p : Prescaler) (fits : ℕ → Bool) where
       let k : r .at + n + 1 ≡ r .at + suc n = omega arith in
       simp (e, tick-still s _ (still-at (s .wave) (r .moving) (g .sound .steady) n h), linear-suc, append-nil, g .fit, k)
 
-pub quiet-none : (s : Setting) (r : Run) → quiet s 0 r ≡ r
+pub quiet-none : (s : Setting) (r : Run) → r .moving .counter .odometer < 2 ^ 64 → quiet s 0 r ≡ r
 unfolding quiet
-quiet-none s r = simp (add-zero, linear-none)
+quiet-none s r h = simp (add-zero, linear-none (s .wave) (r .moving) h)
 
 pub quiet-ticks : QuietTicks
 unfolding ticks
-quiet-ticks s p fits zero r g e h = sym (quiet-none s r)
+quiet-ticks s p fits zero r g e h = sym (quiet-none s r (g .sound .steady .odometer))
 quiet-ticks s p fits (suc n) r g e h =
     (rw add-one at (ticks-add s p fits n 1 r)) ∙ ap (one s p fits) (quiet-ticks s p fits n r g e (omega arith)) ∙ one-quiet s p fits n r g e h
 

@@ -69,6 +69,10 @@ events s p fits n r = skips n s p fits n r
 
 -- ---- what the code's parts of a run say of it
 
+-- what moves, with another odometer
+abbrev pub odometerTo : Moving → ℕ → Moving
+odometerTo m odometer = record { counter = record { count = m .counter .count; direction = m .counter .direction; blocked = m .counter .blocked; odometer = odometer }; ocr = m .ocr; oc = m .oc; drives = m .drives; tifr = m .tifr }
+
 -- a run as the code has it, its bytes in the area
 abbrev pub standing : Progress → List ℕ → Run
 standing r area = record { moving = r .moving; at = r .at .0; bytes = take (r .to) area; paused = false }

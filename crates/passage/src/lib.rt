@@ -5,9 +5,12 @@ use tick::setting::Moving;
 use tick::setting::Setting;
 use time::units::Prescaler;
 use time::units::Ticks;
+use wave::count::counted;
 ghost use Prim.Native.Nat.{_+_};
+ghost use mathlib.Core.Path.{_≡_};
 ghost use lib.ListN.{length};
-ghost use Rattle.passage.specs.Passage.{Ready, Ran, Made, Finishes};
+ghost use Rattle.wave.specs.Count.{Turns};
+ghost use Rattle.passage.specs.Passage.{odometerTo, Ready, Ran, Made, Finishes};
 
 // Where a run stands: what moved, quiet ticks that lie ahead, the number of its last tick, and the place of the next record.
 pub struct Progress {
@@ -31,8 +34,21 @@ pub struct Finished {
     pub paused: bool,
 }
 
+// What moves, with another odometer.
+pub fn dialled(m: Moving, odometer: u64) -> Moving
+    requires { ⌜ Turns (m .counter .direction) ⌝ }
+    ensures { λ r. ⌜ r ≡ odometerTo m odometer ⌝ }
+{
+    let mut counter = m.counter;
+    counter.odometer = odometer;
+    let mut moving = m;
+    moving.counter = counter;
+    moving
+}
+
 impl Progress {
-    // Event by event up to a tick, while there are 110 bytes for the event's records.
+    // Event by event up to a tick, while there are 110 bytes for the event's records. The odometer stands still meanwhile, and
+    // is then put on by the ticks made.
     pub fn run(self, s: Setting, end: Ticks, p: Prescaler, area: &mut [u8]) -> Progress
         requires { ⌜ Ready s p self (end .0) (length (now area)) ⌝ }
         ensures { λ r. ⌜ Ran s p self (end .0) (now (area .entry)) r (now (area .exit)) ⌝ }
@@ -40,6 +56,8 @@ impl Progress {
         let wave = s.wave;
         let from = self.at;
         let mut m = self.moving;
+        let begun = m.counter;
+        let odometer = begun.odometer;
         let mut gap = self.gap;
         let mut at = from.0;
         let mut to = self.to;
@@ -47,7 +65,8 @@ impl Progress {
             let near = m.skip(wave, gap);
             let tick = at + (gap as u64) + 1;
             let t = s.tick(near, area, to, p.cycle(Ticks(tick)));
-            m = t.moving;
+            let moved = t.moving;
+            m = dialled(moved, odometer);
             to = t.to;
             at = tick;
             let counter = m.counter;
@@ -55,7 +74,7 @@ impl Progress {
             gap = wave.gap(counter, ocr);
         }
         Progress {
-            moving: m,
+            moving: dialled(m, counted(odometer, at - from.0)),
             gap,
             at: Ticks(at),
             to,

@@ -119,7 +119,7 @@ answer-at = refl
 timer-at : fieldOf D′.mir 1 ≡ some-at (T′.mir, 24)
 timer-at = refl
 
-written-at : fieldOf D′.mir 2 ≡ some-at (tyInt w64, 192)
+written-at : fieldOf D′.mir 2 ≡ some-at (tyInt w64, 208)
 written-at = refl
 
 val-is : (o : Outcome) (v : Val) → Is D.the-row o (v ∷ []) → v ≡ vstruct (outcome-vals o)

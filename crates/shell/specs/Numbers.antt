@@ -68,7 +68,7 @@ steppedOf o = record { timer = o .timer; reply = replyOf (numberOf (o .answer)) 
 
 -- the shape of a timer
 abbrev pub shape : Shape
-shape = record { size = 168; align = 8 }
+shape = record { size = 184; align = 8 }
 
 -- the call that a number names; a number that names none is turned away with 255
 abbrev pub answeredTo : Timer → Wanted → ℕ → List ℕ → Told

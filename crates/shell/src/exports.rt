@@ -82,7 +82,7 @@ pub extern "C" fn paddlemauve_shape() -> Shape
     ensures { λ r. ⌜ r ≡ shape ⌝ }
 {
     Shape {
-        size: 168,
+        size: 184,
         align: 8,
     }
 }

@@ -1,5 +1,5 @@
--- Below the gap a tick only steps the count and lifts the block; ticks and linear steps keep what is sound.
-use Prim.Native.Nat.{ℕ, suc, _+_, _-_, _≤_, _<_}
+-- Below the gap a tick only steps the count, adds one to the odometer and lifts the block; ticks and linear steps keep what is sound.
+use Prim.Native.Nat.{ℕ, suc, _+_, _-_, _%_, _≤_, _<_, _^_}
 use native.Mathlib.Omega.{arith}
 use native.Mathlib.Nat.{add-zero, sub-zero}
 use mathlib.Core.Path.{_≡_, refl}
@@ -14,7 +14,7 @@ use borrow.Author.Tests.{leb-true, eqb-false, le-leb, lt-leb, ne-eqb}
 use Rattle.wave.specs.declared.kinds.Wave.{Wave}
 use Rattle.wave.specs.declared.count.Counter.{Counter}
 use Rattle.wave.specs.Kinds.{C, F, P}
-use Rattle.wave.specs.Count.{falls, topOf, hits, overflows, loads, atTop, atZero, nextCount, nextDirection, Turns}
+use Rattle.wave.specs.Count.{falls, topOf, hits, overflows, loads, atTop, atZero, nextCount, nextDirection, counted, Turns}
 use Rattle.wave.specs.Distance.{space, ahead, gapAt, gap, moved}
 use Rattle.tick.specs.declared.setting.Moving.{Moving}
 use Rattle.tick.specs.declared.setting.Setting.{Setting}
@@ -22,7 +22,7 @@ use Rattle.tick.specs.Outputs.{outputs, matchesOf, matched}
 use Rattle.tick.specs.Tick.{eventsAt, raised, raises, flagLogOf, tickBy, tick, eventsOf}
 use Rattle.tick.specs.Skip.{linear}
 use Rattle.tick.specs.Sound.{Steady, Sound}
-use Rattle.tick.specs.Keeps.{TickKeeps, StepKeeps}
+use Rattle.tick.specs.Keeps.{TickKeeps, StepKeeps, TickWraps, StepWraps}
 use Rattle.tick.proofs.Choices.{and-left, cond-case, cond-all, cond-le}
 use Rattle.tick.proofs.Bounds.{gap-down, gap-up}
 
@@ -98,25 +98,30 @@ unfolding moved
 moved-suc true count n = omega arith
 moved-suc false count n = omega arith
 
+counted-suc : (odometer n : ℕ) → counted (counted odometer n) 1 ≡ counted odometer (suc n)
+counted-suc odometer n = omega arith
+
 pub linear-suc : (w : Wave) (n : ℕ) (m : Moving) → linear w 1 (linear w n m) ≡ linear w (suc n) m
 unfolding linear falls
-linear-suc w n m = simp (moved-suc, eqb·suc-zero, and-false)
+linear-suc w n m = simp (moved-suc, counted-suc, eqb·suc-zero, and-false)
 
-pub linear-none : (w : Wave) (m : Moving) → linear w 0 m ≡ m
+pub linear-none : (w : Wave) (m : Moving) → m .counter .odometer < 2 ^ 64 → linear w 0 m ≡ m
 unfolding linear moved
-linear-none w m = simp (add-zero, sub-zero, cond-same, and-true)
+linear-none w m h =
+    let k : m .counter .odometer % 2 ^ 64 ≡ m .counter .odometer = omega arith in
+    simp (k, add-zero, sub-zero, cond-same, and-true)
 
 -- ---- what is sound stays so
-sound-at : (s : Setting) (m k : Moving) → Sound s m → k .counter .count ≤ s .wave .max → Turns (k .counter .direction) → ((ch : ℕ) → getD (k .ocr) ch 0 ≤ s .wave .max) → Sound s k
-sound-at s m k v c d o =
+sound-at : (s : Setting) (m k : Moving) → Sound s m → k .counter .count ≤ s .wave .max → Turns (k .counter .direction) → k .counter .odometer < 2 ^ 64 → ((ch : ℕ) → getD (k .ocr) ch 0 ≤ s .wave .max) → Sound s k
+sound-at s m k v c d n o =
     record {
-      steady = record { least = v .steady .least; most = v .steady .most; fixed = v .steady .fixed; icr = v .steady .icr; compares = o; count = c; turns = d };
+      steady = record { least = v .steady .least; most = v .steady .most; fixed = v .steady .fixed; icr = v .steady .icr; compares = o; count = c; turns = d; odometer = n };
       buffers = v .buffers;
     }
 
 pub step-keeps : StepKeeps
 unfolding linear moved
-step-keeps s n m v h = sound-at s m _ v (cond-case (λ (c : ℕ). c ≤ s .wave .max) (falls (s .wave) (m .counter)) (λ e. omega arith) (λ e. gap-up (s .wave) m (v .steady) n e h)) (v .steady .turns) (v .steady .compares)
+step-keeps s n m v h = sound-at s m _ v (cond-case (λ (c : ℕ). c ≤ s .wave .max) (falls (s .wave) (m .counter)) (λ e. omega arith) (λ e. gap-up (s .wave) m (v .steady) n e h)) (v .steady .turns) (omega arith) (v .steady .compares)
 
 next-max : (w : Wave) (m : Moving) (top : ℕ) → Steady w m → nextCount w (m .counter) top ≤ w .max
 unfolding nextCount
@@ -134,5 +139,14 @@ next-turns w d top zero h = cond-all Turns (leb P (w .kind) && top) (inr refl) (
 pub tick-keeps : TickKeeps
 unfolding tickBy
 tick-keeps s m v =
-    sound-at s m _ v (next-max (s .wave) m _ (v .steady)) (next-turns (s .wave) _ _ _ (v .steady .turns))
+    sound-at s m _ v (next-max (s .wave) m _ (v .steady)) (next-turns (s .wave) _ _ _ (v .steady .turns)) (omega arith)
     (cond-all (λ (l : List ℕ). (ch : ℕ) → getD l ch 0 ≤ s .wave .max) (eventsOf s m .load) (v .buffers) (v .steady .compares))
+
+-- ---- the odometer goes over its last number
+pub tick-wraps : TickWraps
+unfolding tickBy
+tick-wraps s m e = rw e
+
+pub step-wraps : StepWraps
+unfolding linear
+step-wraps w n m k h l = omega arith

@@ -13,7 +13,7 @@ use mir.Val.{toZ, ofZ}
 use Rattle.records.specs.declared.Entry.{Entry}
 use Rattle.records.specs.Records.{recordOf, recordsOf, only}
 use Rattle.records.proofs.Records.{only-length}
-use Rattle.wave.specs.Count.{topOf, nextCount, nextDirection, Turns}
+use Rattle.wave.specs.Count.{topOf, nextCount, nextDirection, counted, Turns}
 use Rattle.wave.proofs.Signs.{turn-back}
 use Rattle.tick.specs.declared.happenings.Events.{Events}
 use Rattle.tick.specs.declared.outputs.Outputs.{Outputs}
@@ -71,14 +71,14 @@ module _ (flag : Entry) (id : ℕ) (e : Events) (cycle at : ℕ) (l : List ℕ) 
       rw (h, ← ea, ← eb, ← ev, ← ei) (k .next, k .area, omega (arith, p .0))
 
 -- a tick, from what its parts promise
-module _ (s : Setting) (m : Moving) (e : Events) (cycle at : ℕ) (l : List ℕ) {top up count to : ℕ} {d : ℤ} {active : List ℕ} {r : Outputs} {k n : List ℕ} where
+module _ (s : Setting) (m : Moving) (e : Events) (cycle at : ℕ) (l : List ℕ) {top up count odometer to : ℕ} {d : ℤ} {active : List ℕ} {r : Outputs} {k n : List ℕ} where
   pub tick-is : Turns (m .counter .direction) → top ≡ topOf (s .wave) (getD (m .ocr) 0 0) → e ≡ eventsAt s m top → up ≡ raised s e
       → (Wrote (outputs s e (outsOf m)) cycle at l r k) × (r .to ≤ at + 60) → Flagged (flagEntry s up (bitOr (m .tifr) up)) (s .id) e cycle (r .to) k to n
       → count ≡ nextCount (s .wave) (m .counter) top
-      → d ≡ nextDirection (s .wave) (toZ w32 (ofZ w32 (m .counter .direction))) (e .top) (e .zero) → active ≡ cond (e .load) (s .buffer) (m .ocr)
+      → d ≡ nextDirection (s .wave) (toZ w32 (ofZ w32 (m .counter .direction))) (e .top) (e .zero) → odometer ≡ counted (m .counter .odometer) 1 → active ≡ cond (e .load) (s .buffer) (m .ocr)
       → Worked (tick s m) cycle at l (record {
         moving = record {
-          counter = record { count = count; direction = toZ w32 (ofZ w32 d); blocked = false };
+          counter = record { count = count; direction = toZ w32 (ofZ w32 d); blocked = false; odometer = odometer };
           ocr = active;
           oc = r .oc;
           drives = r .drives;
@@ -87,7 +87,7 @@ module _ (s : Setting) (m : Moving) (e : Events) (cycle at : ℕ) (l : List ℕ)
         to = to;
       }) n
   unfolding tickBy
-  tick-is t et ee eu w f ec ed ea =
+  tick-is t et ee eu w f ec ed eo ea =
       let happens : eventsOf s m ≡ e = sym (ee ∙ ap (eventsAt s m) et) in
       let turns = next-turns (s .wave) (m .counter .direction) (e .top) (e .zero) t in
       let back : toZ w32 (ofZ w32 d) ≡ nextDirection (s .wave) (m .counter .direction) (e .top) (e .zero) = rw (ed, turn-back t) (turn-back turns) in
@@ -96,7 +96,7 @@ module _ (s : Setting) (m : Moving) (e : Events) (cycle at : ℕ) (l : List ℕ)
       let p = rw eu at (put-then i j) in
       rw happens
       (record {
-        moving = rw (ec, et, back, ea, w .0 .oc, w .0 .drives, eu);
+        moving = rw (ec, et, back, eo, ea, w .0 .oc, w .0 .drives, eu);
         to = p .next;
         area = p .area;
         most = omega (arith, w .1, f .2);

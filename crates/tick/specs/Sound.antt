@@ -1,5 +1,5 @@
 -- What ticks keep of a waveform and what moves.
-use Prim.Native.Nat.{ℕ, _≤_, _<_}
+use Prim.Native.Nat.{ℕ, _≤_, _<_, _^_}
 use lib.ListN.{getD}
 use Rattle.wave.specs.declared.kinds.Wave.{Wave}
 use Rattle.wave.specs.Count.{Turns}
@@ -15,6 +15,7 @@ pub record Steady (w : Wave) (m : Moving) : Type 0 where
   pub compares : (ch : ℕ) → getD (m .ocr) ch 0 ≤ w .max
   pub count : m .counter .count ≤ w .max
   pub turns : Turns (m .counter .direction)
+  pub odometer : m .counter .odometer < 2 ^ 64
 
 -- and of what no tick changes
 pub record Sound (s : Setting) (m : Moving) : Type 0 where

@@ -10,7 +10,7 @@ use lib.Bits.{bitOr, bitAnd}
 use Rattle.records.specs.declared.Entry.{Entry}
 use Rattle.records.specs.Records.{only, recordsOf}
 use Rattle.wave.specs.Kinds.{F, I}
-use Rattle.wave.specs.Count.{topOf, hits, overflows, loads, nextCount, nextDirection, atTop, atZero, rising}
+use Rattle.wave.specs.Count.{topOf, hits, overflows, loads, nextCount, nextDirection, counted, atTop, atZero, rising}
 use Rattle.tick.specs.declared.happenings.Events.{Events}
 use Rattle.tick.specs.declared.tick.Ticked.{Ticked}
 use Rattle.tick.specs.declared.setting.Moving.{Moving}
@@ -91,6 +91,7 @@ tickBy s m e = record {
       count = nextCount (s .wave) (m .counter) (topOf (s .wave) (getD (m .ocr) 0 0));
       direction = nextDirection (s .wave) (m .counter .direction) (e .top) (e .zero);
       blocked = false;
+      odometer = counted (m .counter .odometer) 1;
     };
     ocr = cond (e .load) (s .buffer) (m .ocr);
     oc = outputs s e (outsOf m) .oc;

@@ -5,6 +5,7 @@ use crate::setting::Moving;
 use crate::setting::Setting;
 use time::units::Cycle;
 use wave::count::Counter;
+use wave::count::counted;
 ghost use Prim.Native.Nat.{_+_, _≤_};
 ghost use mathlib.Core.Path.{_≡_};
 ghost use mathlib.Core.Bool.{cond};
@@ -45,6 +46,7 @@ impl Setting {
             count: wave.next_count(was, top),
             direction: wave.next_direction(direction, e.top, e.zero),
             blocked: false,
+            odometer: counted(was.odometer, 1),
         };
         let oc = outs.oc;
         let drives = outs.drives;

@@ -95,6 +95,7 @@ tick-asked t c cycle v e q =
             accepted = v .accepted;
             count = v .count;
             turns = v .turns;
+            odometer = v .odometer;
             compares = v .compares;
             buffers = v .buffers;
             icr = v .icr;

@@ -1,4 +1,4 @@
--- Before the announced next event a tick only steps the count and lifts a blocked match.
+-- Before the announced next event a tick only steps the count, adds one to the odometer and lifts a blocked match.
 use Prim.Native.Nat.{ℕ, suc, _+_, _<_}
 use native.Mathlib.Omega.{arith}
 use mathlib.Core.Path.{_≡_, refl, sym, _∙_}

@@ -49,7 +49,7 @@ abbrev pub CallKeeps : Type 0
 CallKeeps = (t : Timer) (q : Request) → Valid t → Valid (told ticks t q .timer)
 
 -- Demand 3. Alike: for every accepted configuration and every list of calls, refused ones among them, the counter that skips and the plain
--- counter give the same outcomes (refusal or answer, value, bytes, paused cycle, records in order, every area byte) and the same timer
+-- counter give the same outcomes (refusal or answer, value, bytes, paused cycle, records in order, every area byte) and the same timer, its odometer too
 pub record Same (t : Timer) (qs : List Request) : Type 0 where
   pub outcomes : outcomes events t qs ≡ outcomes ticks t qs
   pub last : last events t qs ≡ last ticks t qs
@@ -88,7 +88,7 @@ Held = (c : Config) → accepted c ≡ true → (qs : List Request) (q : Request
 abbrev pub tickCycle : Timer → ℕ → ℕ
 tickCycle t n = cycleAt (prescalerOf t) (ticksAt (prescalerOf t) (t .clock .sync .0) + n)
 
--- Quiet: after any list, a prescaled tick whose cycle lies before the cycle that next answers only steps the count and lifts a blocked match
+-- Quiet: after any list, a prescaled tick whose cycle lies before the cycle that next answers only steps the count, adds one to the odometer and lifts a blocked match
 abbrev pub Quiet : Type 0
 Quiet = (c : Config) → accepted c ≡ true → (qs : List Request) (cycle : ℕ) (area : List ℕ) (at : Cycle) (n : ℕ) → let t = last ticks (freshOf c) qs in
     let w = waveOf t (modeOf t) in

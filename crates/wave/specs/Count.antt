@@ -1,5 +1,5 @@
 -- How the count goes: TOP, matches, overflow, loads, the next count and direction (01, "Count, direction, next event").
-use Prim.Native.Nat.{ℕ, _+_, _-_}
+use Prim.Native.Nat.{ℕ, _+_, _-_, _%_, _^_}
 use mathlib.Core.Path.{_≡_}
 use mathlib.Core.Bool.{Bool, true, false, cond, not, _&&_, _||_}
 use mathlib.Core.Logic.{_⊎_}
@@ -50,6 +50,10 @@ nextCount w c top =
 -- P and Q turn to falling at TOP and to rising at 0; the direction survives everything else
 unfoldable pub nextDirection : Wave → ℤ → Bool → Bool → ℤ
 nextDirection w d top zero = cond (leb P (w .kind) && top) (negsuc 0) (cond zero (pos 1) d)
+
+-- the odometer n counts on: it wraps at 2^64 (02, 2.7)
+abbrev pub counted : ℕ → ℕ → ℕ
+counted odometer n = (odometer + n) % 2 ^ 64
 
 -- at TOP: the count stands at it and does not fall
 unfoldable pub atTop : Wave → Counter → ℕ → Bool

@@ -6,7 +6,7 @@ use lib.ListN.{getD}
 use lib.Dec.{eqb, leb}
 use Rattle.wave.specs.declared.kinds.Wave.{Wave}
 use Rattle.wave.specs.declared.count.Counter.{Counter}
-use Rattle.wave.specs.Count.{falls, topOf}
+use Rattle.wave.specs.Count.{falls, topOf, counted}
 
 -- ticks before the count turns or wraps: to 0 falling, else to TOP, or to MAX from above TOP
 unfoldable pub space : Bool → ℕ → ℕ → ℕ → ℕ
@@ -35,4 +35,4 @@ moved down count n = cond down (count - n) (count + n)
 
 -- n quiet ticks in one step; none leave the block as it was
 abbrev pub skipped : Wave → ℕ → Counter → Counter
-skipped w n c = record { count = moved (falls w c) (c .count) n; direction = c .direction; blocked = c .blocked && eqb n 0 }
+skipped w n c = record { count = moved (falls w c) (c .count) n; direction = c .direction; blocked = c .blocked && eqb n 0; odometer = counted (c .odometer) n }

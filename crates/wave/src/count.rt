@@ -9,21 +9,24 @@ use crate::kinds::PC;
 use crate::kinds::Wave;
 use crate::kinds::dual_slope;
 use crate::kinds::ends_at_top;
+use std::num::wrapping_add_u64;
 ghost use Prim.Native.Nat.{_+_, _-_, _<_, _≤_};
 ghost use mathlib.Core.Path.{_≡_};
 ghost use mathlib.Core.Bool.{cond, _&&_};
 ghost use mathlib.Core.Logic.{_⊎_};
 ghost use lib.Dec.{leb};
 ghost use lib.IntN.{pos, negsuc};
-ghost use Rattle.wave.specs.Count.{negative, topOf, falls, hits, overflows, loads, nextCount, nextDirection, Turns};
+ghost use Rattle.wave.specs.Count.{negative, topOf, falls, hits, overflows, loads, nextCount, nextDirection, counted, Turns};
 ghost use Rattle.wave.specs.Kinds.{P};
 
-// TCNTn, the way it goes in P and Q (plus or minus one), and whether a write of it blocks the next match.
+// TCNTn, the way it goes in P and Q (plus or minus one), whether a write of it blocks the next match, and the counts made
+// since the reset.
 #[repr(C)]
 pub struct Counter {
     pub count: u32,
     pub direction: i32,
     pub blocked: bool,
+    pub odometer: u64,
 }
 
 // The count with the direction added.
@@ -32,6 +35,13 @@ pub fn stepped(count: u32, direction: i32) -> u32
     ensures { λ r. ⌜ r ≡ cond (negative direction) (count - 1) (count + 1) ⌝ }
 {
     ((count as i32) + direction) as u32
+}
+
+// The odometer n counts on.
+pub fn counted(odometer: u64, n: u64) -> u64
+    ensures { λ r. ⌜ r ≡ counted odometer n ⌝ }
+{
+    wrapping_add_u64(odometer, n)
 }
 
 impl Counter {

@@ -1,6 +1,7 @@
 // Quiet ticks ahead, and the count after them.
 
 use crate::count::Counter;
+use crate::count::counted;
 use crate::kinds::Wave;
 ghost use Prim.Native.Nat.{_+_, _<_, _≤_, min};
 ghost use mathlib.Core.Path.{_≡_};
@@ -89,6 +90,7 @@ impl Counter {
             count: moved(wave.falls(self), self.count, n),
             direction,
             blocked: self.blocked & (n == 0),
+            odometer: counted(self.odometer, n as u64),
         }
     }
 }

@@ -8,8 +8,8 @@ use oracle::script::play;
 fn main() -> io::Result<()> {
     let arguments: Vec<String> = std::env::args().skip(1).collect();
     let judge = match arguments.iter().map(String::as_str).collect::<Vec<_>>()[..] {
-        [] => Judge::new(Follow::Rust),
-        ["--sheet"] => Judge::new(Follow::Sheet),
+        [] => Judge::new(Follow::Rust).counting(),
+        ["--sheet"] => Judge::new(Follow::Sheet).counting(),
         ["--past-7"] => {
             // The panics are the answer; the message goes there and not to standard error.
             std::panic::set_hook(Box::new(|_| ()));

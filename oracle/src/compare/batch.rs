@@ -31,7 +31,7 @@ impl Batch {
     /// The batch that begins with a seed, counted; it ends early where so many calls are done.
     fn new(first: u64, wanted: usize, figures: &mut Figures) -> Result<Self, String> {
         let mut batch = Self::default();
-        let mut play = Play::new(Judge::new(Follow::Sheet));
+        let mut play = Play::new(Judge::new(Follow::Sheet).counting());
         for seed in first..first + SCRIPTS {
             let mut lines = vec![APART.into()];
             lines.extend(script(seed).ok_or_else(|| failed_check(seed))?);

@@ -45,7 +45,7 @@ pub fn script(seed: u64) -> Option<Vec<String>> {
 
 /// Answers a script by the judge, following the sheet.
 pub fn judged(lines: &[String], figures: &mut Figures) -> Answers {
-    let mut play = Play::new(Judge::new(Follow::Sheet));
+    let mut play = Play::new(Judge::new(Follow::Sheet).counting());
     let mut answers = Vec::with_capacity(lines.len());
     for line in lines {
         let answer = play.answer(line.as_bytes());

@@ -120,7 +120,7 @@ impl Program {
         let longest = [long(500), long(501), long(100_000), padded, vec![b'#'; 501], vec![b'7'; 5_000]];
         for input in ENDS.iter().map(|end| end.to_vec()).chain(longest) {
             let mut wanted = Vec::new();
-            play::answer_all(Judge::new(Follow::Sheet), &input[..], &mut wanted).expect("answers in memory");
+            play::answer_all(Judge::new(Follow::Sheet).counting(), &input[..], &mut wanted).expect("answers in memory");
             let ran = self.run(&input)?;
             if !ran.status.success() || ran.wrote != wanted {
                 let (input, wanted, wrote) = (shown(&input), shown(&wanted), shown(&ran.wrote));

@@ -38,7 +38,7 @@ pub fn smallest(
 
 /// The judge's answers, unless an advance goes too far.
 fn judged(lines: &[String]) -> Option<Answers> {
-    let mut play = Play::new(Judge::new(Follow::Sheet));
+    let mut play = Play::new(Judge::new(Follow::Sheet).counting());
     let mut answers = Vec::new();
     for line in lines {
         if let Ok(Some(Command::Call { call: Call::Advance, cycle, .. })) = read_line(line.as_bytes()) {

@@ -143,6 +143,7 @@ impl Bench {
             tsm: t.tsm,
             route: t.ac_capture,
             latest,
+            odometer: None,
         }
     }
 }

@@ -16,6 +16,7 @@ use std::panic::{catch_unwind, AssertUnwindSafe};
 use mcs::scheduler::Scheduler;
 use mcs::timer::Inside;
 
+use crate::plain::Plain;
 use crate::script::{Answer, Call, Config, PinLine, Sched, Side, State};
 use bench::Bench;
 
@@ -49,6 +50,8 @@ pub struct Judge {
     past_seven: bool,
     held: Option<Held>,
     scheduler: Scheduler,
+    /// For the odometer, which the Rust has not.
+    plain: Option<Plain>,
 }
 
 /// What the generator aims by.
@@ -61,7 +64,12 @@ pub struct View<'a> {
 
 impl Judge {
     pub fn new(follow: Follow) -> Self {
-        Self { follow, past_seven: false, held: None, scheduler: Scheduler::new() }
+        Self { follow, past_seven: false, held: None, scheduler: Scheduler::new(), plain: None }
+    }
+
+    /// With the odometer of a plain counter that is fed the same calls.
+    pub fn counting(self) -> Self {
+        Self { plain: Some(Plain::new(None)), ..self }
     }
 
     /// The Rust, also where refusal 7 would keep it from a state that it cannot stand.
@@ -124,11 +132,13 @@ impl Side for Judge {
         if !rules::accepted(config) {
             return Answer::Refused(1);
         }
+        self.plain.as_mut().map(|plain| plain.configure(config));
         self.held = Some(Held { config: config.clone(), bench: Bench::new(config), latest: 0, drifted: false });
         Answer::Config
     }
 
     fn call(&mut self, call: Call, cycle: u64, area: &mut [u8]) -> Answer {
+        self.plain.as_mut().map(|plain| plain.call(call, cycle, &mut area.to_vec()));
         let Some(held) = &self.held else {
             return Answer::NoTimer;
         };
@@ -152,7 +162,8 @@ impl Side for Judge {
     }
 
     fn state(&self) -> Option<State> {
-        self.held.as_ref().map(Held::state)
+        let odometer = self.plain.as_ref().and_then(Plain::state).and_then(|state| state.odometer);
+        self.held.as_ref().map(|held| State { odometer, ..held.state() })
     }
 
     fn pin(&self, pin: &PinLine) -> Answer {

@@ -26,7 +26,11 @@ impl Timer {
         };
         let held = self.held() && !(self.bent(Bend::HeldEdgeCounts) && self.asleep.is_some());
         if chosen && !held {
+            let counts = self.odometer;
             self.tick(cycle, log);
+            if self.bent(Bend::EdgeUncounted) {
+                self.odometer = counts;
+            }
             if !self.bent(Bend::EdgeKeepsSync) {
                 self.sync = cycle;
             }

@@ -75,6 +75,9 @@ impl Timer {
         fresh.latest = self.latest;
         fresh.sync = cycle;
         fresh.origin = if self.bent(Bend::ResetKeepsOrigin) { self.origin } else { cycle };
+        if self.bent(Bend::ResetKeepsOdometer) {
+            fresh.odometer = self.odometer;
+        }
         if self.bent(Bend::ResetKeepsSleep) {
             fresh.asleep = self.asleep.map(|_| cycle);
         }

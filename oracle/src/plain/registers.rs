@@ -106,6 +106,9 @@ impl Timer {
             Word::Count => {
                 self.count = value;
                 self.blocked = !self.bent(Bend::WriteDoesNotBlock);
+                if self.bent(Bend::WriteClearsOdometer) {
+                    self.odometer = 0;
+                }
             }
             Word::Compare(channel) => {
                 self.buffer[channel] = value;

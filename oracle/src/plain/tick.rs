@@ -18,6 +18,7 @@ impl Timer {
         let (old, top) = (self.count, self.top());
         let mut raised = Raised::default();
         let was_blocked = self.blocked;
+        self.odometer = self.odometer.wrapping_add(1);
         if !was_blocked {
             self.match_compares(old, top, cycle, &mut raised, log);
         }

@@ -14,6 +14,8 @@ pub struct Timer {
     /// Plus or minus one.
     pub direction: i32,
     pub blocked: bool,
+    /// Counts made since the reset.
+    pub odometer: u64,
     pub active: [u32; 3],
     pub buffer: [u32; 3],
     pub level: [u8; 3],
@@ -42,6 +44,7 @@ impl Timer {
             count: 0,
             direction: 1,
             blocked: false,
+            odometer: 0,
             active: [0; 3],
             buffer: [0; 3],
             level: [0; 3],
@@ -190,6 +193,7 @@ impl Timer {
             tsm: self.tsm,
             route: self.routed,
             latest: self.latest,
+            odometer: Some(self.odometer),
         }
     }
 }

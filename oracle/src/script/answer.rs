@@ -115,6 +115,8 @@ pub struct State {
     pub tsm: bool,
     pub route: bool,
     pub latest: u64,
+    /// The Rust has none.
+    pub odometer: Option<u64>,
 }
 
 impl fmt::Display for State {
@@ -143,7 +145,8 @@ impl fmt::Display for State {
             " asleep={} prr={} tsm={} route={}",
             self.asleep as u8, self.prr as u8, self.tsm as u8, self.route as u8
         )?;
-        write!(f, " latest={}", self.latest)
+        write!(f, " latest={}", self.latest)?;
+        self.odometer.map_or(Ok(()), |counts| write!(f, " odometer={counts}"))
     }
 }
 

@@ -89,7 +89,7 @@ stepped-vals s = vcons (timer-of (s .timer)) (vcons (reply-of (s .reply)) vnil)
 timer-at : fieldOf D′.mir 0 ≡ some-at (T′.mir, 0)
 timer-at = refl
 
-reply-at : fieldOf D′.mir 1 ≡ some-at (E′.mir, 168)
+reply-at : fieldOf D′.mir 1 ≡ some-at (E′.mir, 184)
 reply-at = refl
 
 val-is : (s : Stepped) (v : Val) → Is D.the-row s (v ∷ []) → v ≡ vstruct (stepped-vals s)

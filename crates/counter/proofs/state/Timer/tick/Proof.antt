@@ -12,7 +12,7 @@ aside-requires : tie.Need-aside-requires
 aside-requires c κs = struck-ready (c .before .before .before .before .args .self) (c .before .before .before .before .args .cycle .0) (c .before .before .before .before .pre) (is-setting (c .before)) (c .moving .ensures)
 
 returns : tie.Need-returns
-returns c = strikes (c .before .before .before .before .before .before .before .before .before .args .self) (c .before .before .before .before .before .before .before .before .before .args .cycle .0) (is-setting (c .before .before .before .before .before .before)) (c .before .before .before .before .before .moving .ensures) (c .before .before .before .before .aside .ensures) (c .settled .ensures)
+returns c = strikes (c .before .before .before .before .before .before .before .before .before .args .self) (c .before .before .before .before .before .before .before .before .before .args .cycle .0) (c .before .before .before .before .before .before .before .before .before .pre .0) (is-setting (c .before .before .before .before .before .before)) (c .before .before .before .before .before .moving .ensures) (c .before .before .before .before .aside .ensures) (c .settled .ensures)
 
 pub tick-spec : {M : Type 1} → statement M
 tick-spec =

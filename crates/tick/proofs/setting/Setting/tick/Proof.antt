@@ -11,7 +11,7 @@ next-count-requires : tie.Need-next-count-requires
 next-count-requires c κs = (c .before .before .before .before .before .before .before .before .before .before .before .before .before .before .before .before .before .before .pre .0 .steady .count, c .before .before .before .before .before .before .before .before .before .before .before .before .before .before .before .before .before .before .pre .0 .steady .most, c .before .before .before .before .before .before .before .before .before .before .before .before .before .before .before .before .before .before .pre .0 .steady .turns)
 
 returns : tie.Need-returns
-returns c = tick-is _ _ (c .before .before .before .before .before .before .before .before .before .before .before .before .before .before .before .before .events .result) _ _ _ (c .before .before .before .before .before .before .before .before .before .before .before .before .before .before .before .before .before .before .before .before .before .before .before .pre .0 .steady .turns) (c .before .before .before .before .before .before .before .before .before .before .before .before .before .before .before .before .before .top .ensures) (c .before .before .before .before .before .before .before .before .before .before .before .before .before .before .before .before .events .ensures) (c .before .before .before .before .before .before .before .before .before .before .before .before .before .before .before .raised .ensures) (c .before .before .before .before .before .before .before .before .before .before .before .before .outputs .ensures) (rw (c .before .before .before .before .before .before .before .before .before .flag-entry .ensures) at (c .before .before .before .before .before .before .before .put-flags .ensures)) (c .before .before .before .before .next-count .ensures) (c .before .before .before .next-direction .ensures) (c .loaded .ensures)
+returns c = tick-is _ _ (c .before .before .before .before .before .before .before .before .before .before .before .before .before .before .before .before .before .events .result) _ _ _ (c .before .before .before .before .before .before .before .before .before .before .before .before .before .before .before .before .before .before .before .before .before .before .before .before .pre .0 .steady .turns) (c .before .before .before .before .before .before .before .before .before .before .before .before .before .before .before .before .before .before .top .ensures) (c .before .before .before .before .before .before .before .before .before .before .before .before .before .before .before .before .before .events .ensures) (c .before .before .before .before .before .before .before .before .before .before .before .before .before .before .before .before .raised .ensures) (c .before .before .before .before .before .before .before .before .before .before .before .before .before .outputs .ensures) (rw (c .before .before .before .before .before .before .before .before .before .before .flag-entry .ensures) at (c .before .before .before .before .before .before .before .before .put-flags .ensures)) (c .before .before .before .before .before .next-count .ensures) (c .before .before .before .before .next-direction .ensures) (c .before .before .before .counted .ensures) (c .loaded .ensures)
 
 pub tick-spec : {M : Type 1} → statement M
 tick-spec =
@@ -25,6 +25,7 @@ tick-spec =
     (λ c κs. search needs)
     put-flags-requires
     next-count-requires
+    (λ c κs. search needs)
     (λ c κs. search needs)
     (λ c κs. search needs)
     (λ c. search needs)
