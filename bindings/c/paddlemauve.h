@@ -60,10 +60,11 @@ enum pm_kind {
 /* kind: an enum pm_kind; the other fields are read where the call has such an argument. */
 struct pm_asked { uint8_t kind, pin, value; uint16_t address; uint64_t cycle; };
 
-enum pm_what { PM_NOTHING, PM_BYTE, PM_EVENT_AT, PM_NO_EVENT, PM_PAUSED_AT, PM_REFUSED };
+enum pm_what { PM_NOTHING, PM_BYTE, PM_EVENT_AT, PM_NO_EVENT, PM_PAUSED_AT, PM_REFUSED, PM_REACHED };
 
-/* number: 0, or an enum pm_refusal; what: an enum pm_what, with its value. */
-struct pm_reply { uint8_t number, what; uint64_t value, written; };
+/* number: 0, or an enum pm_refusal; what: an enum pm_what, with its value; flags: the TIFR bits that the next event's tick will raise, of
+ * PM_EVENT_AT, PM_PAUSED_AT and PM_REACHED, 0 where there is no next event. */
+struct pm_reply { uint8_t number, what, flags; uint64_t value, written; };
 
 struct pm_area { uint8_t *start; size_t length; };
 struct pm_shape { uint64_t size, align; };

@@ -18,10 +18,10 @@ int main(void) {
     assert(paddlemauve_call(&begun.timer, start, area).number == 0);
 
     struct pm_reply next = paddlemauve_call(&begun.timer, (struct pm_asked){.kind = PM_NEXT, .cycle = 0}, area);
-    assert(next.number == 0 && next.what == PM_EVENT_AT && next.value == 1);
+    assert(next.number == 0 && next.what == PM_EVENT_AT && next.value == 1 && next.flags == 6);
 
     struct pm_reply done = paddlemauve_call(&begun.timer, (struct pm_asked){.kind = PM_ADVANCE, .cycle = 1}, area);
-    assert(done.number == 0 && done.what == PM_NOTHING && done.written == 3 * PM_RECORD && bytes[done.written] == 0);
+    assert(done.number == 0 && done.what == PM_REACHED && done.flags == 1 && done.written == 3 * PM_RECORD && bytes[done.written] == 0);
     struct pm_record flags = pm_read_record(bytes), a = pm_read_record(bytes + PM_RECORD), b = pm_read_record(bytes + 2 * PM_RECORD);
     assert(flags.kind == PM_FLAGS && flags.cycle == 1 && flags.flags == 6 && flags.lines == 0);
     assert(a.kind == PM_TRIGGER && a.cycle == 1 && a.trigger == PM_COMPARE_A && a.id == 0);

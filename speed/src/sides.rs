@@ -47,7 +47,7 @@ impl Side for Ours {
         let mut bytes = 0;
         loop {
             match self.timer.advance(cycle, &mut self.area) {
-                Ok(Advanced::Done { written }) => return bytes + written,
+                Ok(Advanced::Done { written, .. }) => return bytes + written,
                 Ok(Advanced::Paused { written, .. }) => bytes += written,
                 Err(why) => panic!("advance to {cycle}: {why}"),
             }
@@ -56,7 +56,7 @@ impl Side for Ours {
 
     #[inline]
     fn next(&mut self, cycle: u64) -> u64 {
-        self.timer.next(cycle).expect("no event is due").unwrap_or(u64::MAX)
+        self.timer.next(cycle).expect("no event is due").map_or(u64::MAX, |next| next.cycle)
     }
 
     #[inline]

@@ -84,7 +84,7 @@ fn both(
     figures.calls += 1;
     figures.refused += matches!(answered, Answer::Refused(_)) as usize;
     figures.paused += matches!(answered, Answer::Paused { .. }) as usize;
-    if let (Answer::Done { next, .. }, true) = (&mut judged, ours.event_due()) {
+    if let (Answer::Done { next, .. } | Answer::Paused { next, .. }, true) = (&mut judged, ours.event_due()) {
         figures.due += 1;
         *next = None;
     }

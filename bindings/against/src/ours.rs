@@ -1,7 +1,7 @@
 //! The bindings as a side of the oracle's scripts.
 
-use oracle::script::{self, Answer, State};
-use paddlemauve::{Answer as Told, Call, Capture, Clocks, Compare, Config, Layout, Outcome, Refusal, Timer};
+use oracle::script::{self, Answer, Event, State};
+use paddlemauve::{Answer as Told, Call, Capture, Clocks, Compare, Config, Layout, Next, Outcome, Refusal, Timer};
 
 #[derive(Default)]
 pub struct Ours {
@@ -26,19 +26,27 @@ impl Ours {
         let Outcome { answer, written: bytes } = timer.call(asked(call), cycle, area);
         match answer {
             Told::Refused(why) => Answer::Refused(why.number()),
-            Told::Paused(cycle) => Answer::Paused { cycle, bytes },
+            Told::Paused(cycle, flags) => Answer::Paused { cycle, next: self.told(flags), bytes },
             Told::Value(value) => Answer::Done { value: Some(value), next: self.next(), bytes },
-            Told::Next(at) => {
-                assert_eq!(at, self.next(), "next answers what it answers again");
-                Answer::Done { value: None, next: at, bytes }
+            Told::Next(next) => {
+                assert_eq!(next.map(event), self.next(), "next answers what it answers again");
+                Answer::Done { value: None, next: next.map(event), bytes }
             }
+            Told::Reached(flags) => Answer::Done { value: None, next: self.told(flags), bytes },
             Told::Done => Answer::Done { value: None, next: self.next(), bytes },
         }
     }
 
     /// The next event as the timer stands; none too where it is past.
-    fn next(&self) -> Option<u64> {
-        self.asked_next().and_then(|next| next.unwrap_or(None))
+    fn next(&self) -> Option<Event> {
+        self.asked_next().and_then(|next| next.unwrap_or(None)).map(event)
+    }
+
+    /// The same after an advance, which answers the event's flags too.
+    fn told(&self, flags: u8) -> Option<Event> {
+        let next = self.next();
+        assert!(self.event_due() || flags == next.map_or(0, |n| n.flags), "an advance answers the flags that next answers");
+        next
     }
 
     /// Whether the event is past, where `next` is refused.
@@ -46,13 +54,17 @@ impl Ours {
         self.asked_next() == Some(Err(Refusal::EventDue))
     }
 
-    fn asked_next(&self) -> Option<Result<Option<u64>, Refusal>> {
+    fn asked_next(&self) -> Option<Result<Option<Next>, Refusal>> {
         self.held.as_ref().map(|(_, timer)| timer.clone().next(timer.state().latest))
     }
 
     pub fn state(&self) -> Option<State> {
         self.held.as_ref().map(|(config, timer)| shown(config, &timer.state()))
     }
+}
+
+fn event(next: Next) -> Event {
+    Event { cycle: next.cycle, flags: next.flags }
 }
 
 /// A configuration of the script as the bindings'.

@@ -48,6 +48,13 @@ pub enum Refusal {
     AreaTooSmall,
 }
 
+/// The next event: its cycle, and the flags, as TIFR bits, that its tick will raise.
+#[derive(Clone, Copy, Debug, PartialEq, Eq)]
+pub struct Next {
+    pub cycle: u64,
+    pub flags: u8,
+}
+
 /// What an accepted call yields, or why it was not.
 #[derive(Clone, Copy, Debug, PartialEq, Eq)]
 pub enum Answer {
@@ -55,10 +62,12 @@ pub enum Answer {
     Done,
     /// A byte read.
     Value(u8),
-    /// The next event's cycle, or none where the counter does not run.
-    Next(Option<u64>),
-    /// The sync cycle of an advance that stopped before a tick whose records did not fit.
-    Paused(u64),
+    /// The next event, or none where the counter does not run.
+    Next(Option<Next>),
+    /// An advance came to its cycle: the flags of the then next event, 0 where there is none.
+    Reached(u8),
+    /// The sync cycle of an advance that stopped before a tick whose records did not fit, and the flags of the then next event.
+    Paused(u64, u8),
 }
 
 /// The answer, and how many bytes were written from the area's start.
@@ -145,9 +154,10 @@ impl Answer {
         match (reply.number, reply.what) {
             (0, 0) => Self::Done,
             (0, 1) => Self::Value(reply.value as u8),
-            (0, 2) => Self::Next(Some(reply.value)),
+            (0, 2) => Self::Next(Some(Next { cycle: reply.value, flags: reply.flags })),
             (0, 3) => Self::Next(None),
-            (0, _) => Self::Paused(reply.value),
+            (0, 6) => Self::Reached(reply.flags),
+            (0, _) => Self::Paused(reply.value, reply.flags),
             (number, _) => Self::Refused(Refusal::of(number)),
         }
     }

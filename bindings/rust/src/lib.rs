@@ -6,13 +6,13 @@
 //! alike.
 //!
 //! ```
-//! use paddlemauve::{records, Advanced, Config, Timer};
+//! use paddlemauve::{records, Advanced, Config, Next, Timer};
 //!
 //! let mut area = [0; 110];
 //! let mut timer = Timer::new(&Config::M328P_TIMER0)?;
 //! timer.write(0x45, 0x01, 0, &mut area)?;
-//! assert_eq!(timer.next(0)?, Some(1));
-//! let Advanced::Done { written } = timer.advance(1, &mut area)? else { panic!("110 bytes hold an event") };
+//! assert_eq!(timer.next(0)?, Some(Next { cycle: 1, flags: 0x06 }));
+//! let Advanced::Done { written, .. } = timer.advance(1, &mut area)? else { panic!("110 bytes hold an event") };
 //! assert_eq!(records(&area[..written]).count(), 3);
 //! assert_eq!(timer.read(0x46, 1)?, 1);
 //! # Ok::<(), paddlemauve::Refusal>(())
@@ -25,7 +25,7 @@ mod raw;
 mod record;
 mod timer;
 
-pub use answer::{Answer, Call, Outcome, Refusal};
+pub use answer::{Answer, Call, Next, Outcome, Refusal};
 pub use config::{Capture, Clocks, Compare, Config, Layout};
 pub use record::{records, Event, Record, EVENT, RECORD};
 pub use timer::{Advanced, State, Timer};

@@ -135,6 +135,7 @@ pub struct Asked {
 pub struct Reply {
     pub number: u8,
     pub what: u8,
+    pub flags: u8,
     pub value: u64,
     pub written: u64,
 }

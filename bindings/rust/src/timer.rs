@@ -1,6 +1,6 @@
 //! A timer, held by its owner and lent to the library for each call.
 
-use crate::answer::{Answer, Call, Outcome, Refusal};
+use crate::answer::{Answer, Call, Next, Outcome, Refusal};
 use crate::config::Config;
 use crate::{layout, raw};
 
@@ -43,16 +43,18 @@ pub struct State {
     pub odometer: u64,
 }
 
-/// How an advance ended, with the bytes written.
+/// How an advance ended, with the bytes written, and the flags of the then next event, 0 where there is none.
 #[derive(Clone, Copy, Debug, PartialEq, Eq)]
 pub enum Advanced {
     Done {
         written: usize,
+        flags: u8,
     },
     /// It stopped before a tick whose records did not fit: read the area, then advance again.
     Paused {
         sync: u64,
         written: usize,
+        flags: u8,
     },
 }
 
@@ -90,14 +92,15 @@ impl Timer {
         let Outcome { answer, written } = self.call(Call::Advance, cycle, area);
         match answer {
             Answer::Refused(why) => Err(why),
-            Answer::Paused(sync) => Ok(Advanced::Paused { sync, written }),
-            _ => Ok(Advanced::Done { written }),
+            Answer::Reached(flags) => Ok(Advanced::Done { written, flags }),
+            Answer::Paused(sync, flags) => Ok(Advanced::Paused { sync, written, flags }),
+            other => unreachable!("an advance answers {other:?}"),
         }
     }
 
-    /// The next event's cycle, or none where the counter does not run.
+    /// The next event with its flags, or none where the counter does not run.
     #[inline]
-    pub fn next(&mut self, cycle: u64) -> Result<Option<u64>, Refusal> {
+    pub fn next(&mut self, cycle: u64) -> Result<Option<Next>, Refusal> {
         match self.call(Call::Next, cycle, &mut []).answer {
             Answer::Refused(why) => Err(why),
             Answer::Next(at) => Ok(at),

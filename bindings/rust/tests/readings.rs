@@ -1,6 +1,6 @@
 //! T1 to T10 of the scope, and the reads of 2.5: registers written, advances, and what is read then.
 
-use paddlemauve::{records, Advanced, Config, Event, Record, Timer, EVENT};
+use paddlemauve::{records, Advanced, Config, Event, Next, Record, Refusal, Timer, EVENT};
 
 const TCCR0A: u16 = 0x44;
 const TCCR0B: u16 = 0x45;
@@ -27,10 +27,15 @@ fn fresh(config: &Config, writes: &[(u16, u8)]) -> Timer {
     timer
 }
 
+/// What `next` answers of an event at a cycle that will raise some flags.
+fn announced(cycle: u64, flags: u8) -> Result<Option<Next>, Refusal> {
+    Ok(Some(Next { cycle, flags }))
+}
+
 /// Advances with room for one event; yields the flags raised and the triggers told.
 fn event(timer: &mut Timer, cycle: u64) -> (u8, Vec<u8>) {
     let mut area = [0; EVENT];
-    let Ok(Advanced::Done { written }) = timer.advance(cycle, &mut area) else {
+    let Ok(Advanced::Done { written, .. }) = timer.advance(cycle, &mut area) else {
         panic!("an advance to {cycle} is not done");
     };
     let mut raised = 0;
@@ -49,14 +54,14 @@ fn event(timer: &mut Timer, cycle: u64) -> (u8, Vec<u8>) {
 #[test]
 fn t1_normal() {
     let mut timer = fresh(&Config::M328P_TIMER0, &[(TCCR0B, 1)]);
-    assert_eq!(timer.next(0), Ok(Some(1)));
+    assert_eq!(timer.next(0), announced(1, OCFA | OCFB));
     let mut area = [0xa5; EVENT];
-    assert_eq!(timer.advance(1, &mut area), Ok(Advanced::Done { written: 30 }));
+    assert_eq!(timer.advance(1, &mut area), Ok(Advanced::Done { written: 30, flags: TOV }));
     assert_eq!(area[..10], [0x40, 0, 0, 0, 0, 0, 0, 1, 6, 0]);
     assert_eq!(area[10..20], [0x80, 0, 0, 0, 0, 0, 0, 1, 0x10, 0]);
     assert_eq!(area[20..30], [0x80, 0, 0, 0, 0, 0, 0, 1, 0x20, 0]);
     assert_eq!(area[30..], [0xa5; EVENT - 30]);
-    assert_eq!(timer.next(1), Ok(Some(256)));
+    assert_eq!(timer.next(1), announced(256, TOV));
 }
 
 const T2: [(u16, u8); 4] = [(OCR0A, 124), (OCR0B, 200), (TCCR0A, 2), (TCCR0B, 3)];
@@ -64,18 +69,19 @@ const T2: [(u16, u8); 4] = [(OCR0A, 124), (OCR0B, 200), (TCCR0A, 2), (TCCR0B, 3)
 #[test]
 fn t2_ctc() {
     let mut timer = fresh(&Config::M328P_TIMER0, &T2);
-    assert_eq!(timer.next(0), Ok(Some(8000)));
+    assert_eq!(timer.next(0), announced(8000, OCFA));
     assert_eq!(event(&mut timer, 8000), (OCFA, vec![1]));
-    assert_eq!(timer.next(8000), Ok(Some(16000)));
+    assert_eq!(timer.next(8000), announced(16000, OCFA));
 }
 
 #[test]
 fn t3_count_written_at_top() {
     let mut timer = fresh(&Config::M328P_TIMER0, &T2);
     assert_eq!(timer.write(TCNT0, 124, 0, &mut []), Ok(0));
+    assert_eq!(timer.next(0), announced(64, 0));
     assert_eq!(event(&mut timer, 64), (0, vec![]));
     assert_eq!(timer.read(TCNT0, 64), Ok(0));
-    assert_eq!(timer.next(64), Ok(Some(8064)));
+    assert_eq!(timer.next(64), announced(8064, OCFA));
 }
 
 #[test]
@@ -108,18 +114,18 @@ fn t6_top_zero() {
 #[test]
 fn t7_direction_survives() {
     let mut timer = fresh(&Config::M328P_TIMER0, &T5);
-    assert_eq!(timer.advance(300, &mut [0; EVENT]), Ok(Advanced::Done { written: 40 }));
+    assert_eq!(timer.advance(300, &mut [0; EVENT]), Ok(Advanced::Done { written: 40, flags: OCFA }));
     assert_eq!((timer.state().count, timer.state().direction), (210, -1));
     assert_eq!(timer.write(TCCR0A, 0, 300, &mut []), Ok(0));
     assert_eq!(timer.read(TCNT0, 320), Ok(230));
-    assert_eq!(timer.next(320), Ok(Some(346)));
+    assert_eq!(timer.next(320), announced(346, TOV | OCFB));
 }
 
 #[test]
 fn t8_wide() {
     let writes = [(OCR1A + 1, 0x3d), (OCR1A, 8), (OCR1B + 1, 0xff), (OCR1B, 0xff), (TCCR1B, 0x0d)];
     let mut timer = fresh(&Config::M328P_TIMER1, &writes);
-    assert_eq!(timer.next(0), Ok(Some(16_000_000)));
+    assert_eq!(timer.next(0), announced(16_000_000, OCFA));
 }
 
 #[test]
@@ -141,7 +147,7 @@ fn t10_sleep() {
     assert_eq!(timer.sleep(2, 100), Ok(()));
     assert_eq!(timer.wake(1000), Ok(()));
     assert_eq!(timer.state().count, 1);
-    assert_eq!(timer.next(1000), Ok(Some(13764)));
+    assert_eq!(timer.next(1000), announced(13764, OCFA | OCFB));
 }
 
 /// 2.5 of 02: a compare is read past TEMP, so the count's high byte is still there.

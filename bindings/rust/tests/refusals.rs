@@ -87,9 +87,9 @@ fn records_fit_the_area() {
 fn an_advance_stops_where_the_area_is_full_and_goes_on() {
     let mut timer = timer0();
     assert_eq!(timer.write(0x45, 1, 0, &mut []), Ok(0));
-    assert_eq!(timer.advance(300, &mut [0; 49]), Ok(Advanced::Paused { sync: 255, written: 30 }));
+    assert_eq!(timer.advance(300, &mut [0; 49]), Ok(Advanced::Paused { sync: 255, written: 30, flags: 0x01 }));
     assert_eq!(timer.state().latest, 255);
-    assert_eq!(timer.advance(300, &mut [0; 49]), Ok(Advanced::Paused { sync: 256, written: 20 }));
-    assert_eq!(timer.advance(300, &mut [0; 49]), Ok(Advanced::Done { written: 30 }));
+    assert_eq!(timer.advance(300, &mut [0; 49]), Ok(Advanced::Paused { sync: 256, written: 20, flags: 0x06 }));
+    assert_eq!(timer.advance(300, &mut [0; 49]), Ok(Advanced::Done { written: 30, flags: 0x01 }));
     assert_eq!(timer.state().latest, 300);
 }

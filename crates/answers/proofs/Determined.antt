@@ -8,4 +8,5 @@ determined (answer.Refused n) = refl
 determined answer.Done = refl
 determined (answer.Value v) = refl
 determined (answer.Next n) = refl
-determined (answer.Paused c) = refl
+determined (answer.Reached f) = refl
+determined (answer.Paused c f) = refl

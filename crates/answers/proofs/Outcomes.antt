@@ -1,42 +1,20 @@
--- Is the next event due, and were the records written: over plain values.
+-- Were the records written: over plain values.
 use Prim.Native.Nat.{ℕ, _+_, _-_, _≤_}
 use native.Mathlib.Omega.{arith}
 use native.Mathlib.Nat.{zero-add}
-use mathlib.Core.Path.{_≡_, refl, sym, _∙_}
-use mathlib.Core.Bool.{Bool, true, false, cond, _&&_}
+use mathlib.Core.Path.{_≡_, sym, _∙_}
+use mathlib.Core.Bool.{Bool, true, false, cond}
 use mathlib.Core.List.{List}
 use lib.Dec.{leb}
 use lib.ListN.{length, take}
 use lib.Seq.{sets, sets-eq, length-take-le}
 use borrow.Author.Tests.{leb-true}
 use Rattle.counter.specs.declared.advance.Logged.{Logged}
-use Rattle.counter.specs.declared.next.Next.the-variants.{At, Never}
 use Rattle.counter.specs.declared.state.Timer.{Timer}
-use Rattle.time.specs.declared.units.Cycle.{Cycle}
-use Rattle.counter.specs.Next.{nextAt, nextOf}
 use Rattle.counter.specs.Halts.{latestTo}
-use Rattle.counter.specs.Modes.{runningOf}
 use Rattle.answers.specs.declared.Answer.the-variants as answer
 use Rattle.answers.specs.declared.Outcome.{Outcome}
 use Rattle.answers.specs.Answers.{Filed}
-use Rattle.answers.specs.Refusals.{isDue}
-
--- is the next event due
-pub event-due : (t : Timer) (cycle : ℕ) {at : Cycle} → At at ≡ nextOf t → leb (at .0) cycle ≡ isDue t cycle
-unfolding isDue nextOf
-event-due t cycle {at} h = go (runningOf t) h
-  where
-    go : (b : Bool) → At at ≡ cond b (At (record { 0 = nextAt t })) Never → leb (at .0) cycle ≡ b && leb (nextAt t) cycle
-    go true e = let z : at ≡ record { 0 = nextAt t } = cc in rw z
-    go false e = absurd (let z : _≡_ {A = ℕ} 0 1 = cc in omega arith)
-
-pub never-due : (t : Timer) (cycle : ℕ) → Never ≡ nextOf t → false ≡ isDue t cycle
-unfolding isDue nextOf
-never-due t cycle h = go (runningOf t) h
-  where
-    go : (b : Bool) → Never ≡ cond b (At (record { 0 = nextAt t })) Never → false ≡ b && leb (nextAt t) cycle
-    go true e = absurd (let z : _≡_ {A = ℕ} 0 1 = cc in omega arith)
-    go false e = refl
 
 -- ---- a log written
 module _ (was : Timer) (l : Logged) (cycle : ℕ) (area : List ℕ) {wrote : Bool} {after : List ℕ} (long : length (l .log .bytes) ≡ 110) (most : l .log .len ≤ 110)

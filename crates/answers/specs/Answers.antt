@@ -14,13 +14,14 @@ use Rattle.answers.specs.declared.Answer.{Answer}
 use Rattle.answers.specs.declared.Answer.the-variants as answer
 use Rattle.answers.specs.declared.Outcome.{Outcome}
 
--- the values that a call answers; a refusal has a case of its own, so that it is none of an accepted call's
+-- the values that a call answers; a refusal has a case of its own, so that it is none of an accepted call's. An advance answers the flags of the then next event (02, 2.2)
 pub data Values : Type 0 where
   refused : Values
   none : Values
   byte : ℕ → Values
   event : Next → Values
-  paused : ℕ → Values
+  reached : ℕ → Values
+  paused : ℕ → ℕ → Values
 
 -- the timer after a call, 01's number (0 where it is accepted), its values, the bytes written, and the whole area
 pub record Told : Type 0 where
@@ -48,7 +49,8 @@ numberOf (answer.Refused n) = n
 numberOf answer.Done = 0
 numberOf (answer.Value v) = 0
 numberOf (answer.Next n) = 0
-numberOf (answer.Paused c) = 0
+numberOf (answer.Reached f) = 0
+numberOf (answer.Paused c f) = 0
 
 -- the values of each case of the code's answer
 abbrev pub valuesOf : Answer → Values
@@ -56,7 +58,8 @@ valuesOf (answer.Refused n) = refused
 valuesOf answer.Done = none
 valuesOf (answer.Value v) = byte v
 valuesOf (answer.Next n) = event n
-valuesOf (answer.Paused c) = paused (c .0)
+valuesOf (answer.Reached f) = reached f
+valuesOf (answer.Paused c f) = paused (c .0) f
 
 -- the answer that a number and values say
 abbrev pub answerOf : ℕ → Values → Answer
@@ -64,7 +67,8 @@ answerOf n refused = answer.Refused n
 answerOf n none = answer.Done
 answerOf n (byte v) = answer.Value v
 answerOf n (event e) = answer.Next e
-answerOf n (paused c) = answer.Paused (record { 0 = c })
+answerOf n (reached f) = answer.Reached f
+answerOf n (paused c f) = answer.Paused (record { 0 = c }) f
 
 -- Determined: number and values determine the answer, its case too
 abbrev pub Determined : Type 0

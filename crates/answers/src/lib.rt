@@ -11,13 +11,15 @@ ghost use Prim.Native.Nat.{_≤_};
 ghost use Rattle.counter.specs.Halts.{latestTo};
 ghost use Rattle.answers.specs.Answers.{Filed};
 
-// A refusal's number; or done, a byte read, the next event, or the sync cycle of an advance that stopped.
+// A refusal's number; or done, a byte read, the next event; of an advance the flags of the then next event, 0 for none, and
+// the sync cycle where it stopped.
 pub enum Answer {
     Refused(u8),
     Done,
     Value(u8),
     Next(Next),
-    Paused(Cycle),
+    Reached(u8),
+    Paused(Cycle, u8),
 }
 
 // The answer, the timer after the call, and the bytes written from the area's start.

@@ -1,6 +1,5 @@
 // Calls turned away: numbers 2 to 7, the first that applies.
 
-use counter::next::Next;
 use counter::state::Timer;
 use time::units::Cycle;
 ghost use mathlib.Core.Path.{_≡_};
@@ -12,10 +11,11 @@ pub fn is_due(t: Timer, cycle: Cycle) -> bool
     requires { ⌜ Valid t ⌝ }
     ensures { λ r. ⌜ r ≡ isDue t (cycle .0) ⌝ }
 {
-    let next = t.next();
-    match next {
-        Next::At(at) => at.0 <= cycle.0,
-        Next::Never => false,
+    if t.running() {
+        let at = t.next_cycle();
+        at.0 <= cycle.0
+    } else {
+        false
     }
 }
 

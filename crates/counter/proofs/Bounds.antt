@@ -9,10 +9,11 @@ use lib.Dec.{eqb, leb}
 use lib.ListN.{getD, take}
 use lib.Seq.{getD-take}
 use borrow.Author.Tests.{leb-true, le-leb, ne-eqb}
+use Rattle.wave.specs.Kinds.{I}
 use Rattle.tick.specs.Sound.{Sound}
 use Rattle.tick.proofs.Choices.{cond-all, cond-case}
 use Rattle.counter.specs.declared.state.Timer.{Timer}
-use Rattle.counter.specs.Modes.{narrowTops, wideTops, falling, rising, csSync, csTimer2, clockAt, fixedAt, maxAt, divisorAt, chosen, modeOf, waveOf, divisorOf}
+use Rattle.counter.specs.Modes.{narrowSources, wideSources, narrowTops, wideTops, falling, rising, csSync, csTimer2, clockAt, sourceAt, fixedAt, maxAt, divisorAt, chosen, modeOf, waveOf, divisorOf}
 use Rattle.counter.specs.Setting.{settingOf, settingAt, movingOf}
 use Rattle.counter.specs.Valid.{Valid}
 
@@ -31,6 +32,11 @@ fixed-max : (wide : Bool) (mode : ℕ) → fixedAt wide mode ≤ maxAt wide
 unfolding fixedAt maxAt most
 fixed-max true mode = at-most wideTops mode
 fixed-max false mode = at-most narrowTops mode
+
+pub source-max : (wide : Bool) (mode : ℕ) → sourceAt wide mode ≤ I
+unfolding sourceAt most
+source-max true mode = at-most wideSources mode
+source-max false mode = let h = at-most narrowSources mode in omega arith
 
 -- ---- clocks: those that are divisors, and those that are not
 clock-max : (clock : ℕ) → cond (leb clock 1024) clock 0 ≤ 1024

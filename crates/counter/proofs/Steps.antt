@@ -3,19 +3,16 @@ use Prim.Native.Nat.{ℕ, _+_, _-_, _<_, _^_}
 use native.Mathlib.Omega.{arith}
 use native.Mathlib.Nat.{div-le-self}
 use mathlib.Core.Path.{_≡_}
-use mathlib.Core.Bool.{true}
 use Rattle.wave.specs.declared.kinds.Wave.{Wave}
-use Rattle.time.specs.declared.units.Cycle.{Cycle}
 use Rattle.time.specs.declared.units.Prescaler.{Prescaler}
 use Rattle.time.specs.declared.units.Ticks.{Ticks}
 use Rattle.time.specs.Units.{ticksAt, cycleAt}
 use Rattle.wave.specs.Distance.{gap}
 use Rattle.tick.proofs.Bounds.{gap-max}
-use Rattle.counter.specs.declared.next.Next.the-variants.{At}
 use Rattle.counter.specs.declared.state.Timer.{Timer}
-use Rattle.counter.specs.Modes.{modeOf, waveOf, prescalerOf, runningOf}
+use Rattle.counter.specs.Modes.{modeOf, waveOf, prescalerOf}
 use Rattle.counter.specs.Setting.{settingAt, movingOf}
-use Rattle.counter.specs.Next.{nextAt, nextOf}
+use Rattle.counter.specs.Next.{nextAt}
 use Rattle.counter.specs.Valid.{Valid}
 use Rattle.counter.proofs.Bounds.{valid-sound}
 use Rattle.counter.proofs.Clocks.{next-fits}
@@ -39,7 +36,7 @@ module _ {t : Timer} {p : Prescaler} {l : Ticks} {n : ℕ} {w : Wave} {g : ℕ} 
       let f : g ≡ gap (waveOf t (modeOf t)) (t .counter) (t .ocr) = simp (x .gap, x .wave, x .mode) in
       omega arith
 
-  next-is : cycleAt p (l .0 + (g + 1)) ≡ nextAt t
+  pub next-is : cycleAt p (l .0 + (g + 1)) ≡ nextAt t
   unfolding nextAt
   next-is = simp (x .gap, x .wave, x .mode, x .last, x .clock)
 
@@ -47,7 +44,3 @@ module _ {t : Timer} {p : Prescaler} {l : Ticks} {n : ℕ} {w : Wave} {g : ℕ} 
   pub next-cycle : Valid t → cycleAt p (l .0 + (g + 1)) < 2 ^ 64
   unfolding nextAt
   next-cycle v = rw next-is (next-fits t v)
-
-  pub next-at : {c : Cycle} → runningOf t ≡ true → c .0 ≡ cycleAt p (l .0 + (g + 1)) → At c ≡ nextOf t
-  unfolding nextOf
-  next-at r e = simp (r, ← next-is, ← e)

@@ -28,15 +28,18 @@ fn records(page: &mut Page, from: usize, area: &[u8], written: usize) -> usize {
     at
 }
 
-// Puts the next event of the timer that a call leaves, and the bytes written.
+// Puts the next event of the timer that a call leaves, the flags that its tick will raise, and the bytes written.
 fn next(page: &mut Page, from: usize, o: Outcome, area: &[u8]) -> usize
     requires { ⌜ Valid (o .timer) ⌝ }
 {
     let t = o.timer;
     let next = t.next();
     let at = match next {
-        Next::At(cycle) => number(page, from, b" next=", cycle.0),
-        Next::Never => text(page, from, b" next=none"),
+        Next::At(cycle, flags) => {
+            let at = number(page, from, b" next=", cycle.0);
+            register(page, at, b" flags=", flags)
+        }
+        Next::Never => text(page, from, b" next=none flags=-"),
     };
     records(page, at, area, o.written)
 }
@@ -52,9 +55,9 @@ pub fn answer(page: &mut Page, from: usize, o: Outcome, area: &[u8]) -> usize
             let at = register(page, from, b"ok value=", value);
             next(page, at, o, area)
         }
-        Answer::Paused(cycle) => {
+        Answer::Paused(cycle, flags) => {
             let at = number(page, from, b"paused cycle=", cycle.0);
-            records(page, at, area, o.written)
+            next(page, at, o, area)
         }
         _ => {
             let at = text(page, from, b"ok value=-");

@@ -6,28 +6,29 @@ use Rattle.counter.specs.declared.next.Next.the-variants as next
 use Rattle.counter.specs.declared.state.Timer.{Timer}
 use Rattle.passage.specs.Passage.{ticks}
 use Rattle.answers.specs.declared.Outcome.{Outcome}
-use Rattle.answers.specs.Answers.{Values, refused, none, byte, event, paused, Told, Tells}
+use Rattle.answers.specs.Answers.{Values, refused, none, byte, event, reached, paused, Told, Tells}
 use Rattle.timer.specs.declared.calls.Call.{Call}
 use Rattle.timer.specs.Claims.{Request, told, outcomes, last}
 use Rattle.timer.proofs.Alike.{alike}
 use Rattle.shell.specs.declared.asked.Asked.{Asked}
 use Rattle.shell.specs.declared.asked.Reply.{Reply}
 use Rattle.shell.specs.declared.asked.Wanted.the-variants as wanted
-use Rattle.shell.specs.Numbers.{whatOf, valueOf, callOf, answeredTo, Replies}
+use Rattle.shell.specs.Numbers.{whatOf, valueOf, flagsOf, callOf, answeredTo, Replies}
 use Rattle.shell.specs.Histories.{heard, valuesIn, replied, asking, History, nothing, called, lent, exported, unnamed, CodeIsRun}
 
 heard-is : {x : Told} {r : Outcome} {after : List ℕ} → Tells x r after → heard r after ≡ x
 heard-is k = rw (k .timer, k .number, k .values, k .written, k .area) refl
 
 -- a reply's numbers say the values that they were made from
-values-back : (v : Values) → valuesIn (whatOf v) (valueOf v) ≡ v
+values-back : (v : Values) → valuesIn (whatOf v) (flagsOf v) (valueOf v) ≡ v
 unfolding valuesIn
 values-back refused = refl
 values-back none = refl
 values-back (byte v) = refl
-values-back (event (next.At c)) = refl
+values-back (event (next.At c f)) = refl
 values-back (event next.Never) = refl
-values-back (paused c) = refl
+values-back (reached f) = refl
+values-back (paused c f) = refl
 
 replied-is : {x : Told} {s : Timer} {r : Reply} {after : List ℕ} → Replies x s r after → replied s r after ≡ x
 replied-is {x} k = rw (k .timer, k .reply, k .area, values-back (x .values)) refl

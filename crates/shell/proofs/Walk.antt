@@ -116,10 +116,10 @@ outcome-vals o = vcons (EL.val A.the-type A′.the-laws (o .answer)) (vcons (tim
 answer-at : fieldOf D′.mir 0 ≡ some-at (A′.mir, 0)
 answer-at = refl
 
-timer-at : fieldOf D′.mir 1 ≡ some-at (T′.mir, 24)
+timer-at : fieldOf D′.mir 1 ≡ some-at (T′.mir, 32)
 timer-at = refl
 
-written-at : fieldOf D′.mir 2 ≡ some-at (tyInt w64, 208)
+written-at : fieldOf D′.mir 2 ≡ some-at (tyInt w64, 216)
 written-at = refl
 
 val-is : (o : Outcome) (v : Val) → Is D.the-row o (v ∷ []) → v ≡ vstruct (outcome-vals o)

@@ -11,7 +11,7 @@ use Rattle.counter.specs.declared.state.Timer.{Timer}
 use Rattle.counter.specs.Fresh.{freshOf}
 use Rattle.passage.specs.Passage.{ticks, events}
 use Rattle.answers.specs.declared.Outcome.{Outcome}
-use Rattle.answers.specs.Answers.{Values, refused, none, byte, event, paused, Told, Tells, numberOf, valuesOf}
+use Rattle.answers.specs.Answers.{Values, refused, none, byte, event, reached, paused, Told, Tells, numberOf, valuesOf}
 use Rattle.timer.specs.declared.calls.Call.{Call}
 use Rattle.timer.specs.Claims.{Request, told, outcomes, last}
 use Rattle.shell.specs.declared.asked.Asked.{Asked}
@@ -25,17 +25,17 @@ use Rattle.shell.specs.Numbers.{callOf, answeredTo, Replies}
 abbrev pub heard : Outcome → List ℕ → Told
 heard r after = record { timer = r .timer; number = numberOf (r .answer); values = valuesOf (r .answer); written = r .written; area = after }
 
--- the values that a reply's two numbers say
-unfoldable pub valuesIn : ℕ → ℕ → Values
-valuesIn what value =
+-- the values that a reply's numbers say
+unfoldable pub valuesIn : ℕ → ℕ → ℕ → Values
+valuesIn what flags value =
     cond (eqb what 0) none
     (cond (eqb what 1) (byte value)
-    (cond (eqb what 2) (event (next.At (record { 0 = value })))
-    (cond (eqb what 3) (event next.Never) (cond (eqb what 4) (paused value) refused))))
+    (cond (eqb what 2) (event (next.At (record { 0 = value }) flags))
+    (cond (eqb what 3) (event next.Never) (cond (eqb what 4) (paused value flags) (cond (eqb what 6) (reached flags) refused)))))
 
 -- what a reply says beside the timer that the call left
 abbrev pub replied : Timer → Reply → List ℕ → Told
-replied t r after = record { timer = t; number = r .number; values = valuesIn (r .what) (r .value); written = r .written; area = after }
+replied t r after = record { timer = t; number = r .number; values = valuesIn (r .what) (r .flags) (r .value); written = r .written; area = after }
 
 -- the request of an exported call
 abbrev pub asking : Asked → Call → List ℕ → Request

@@ -15,7 +15,7 @@ use Rattle.shell.specs.declared.asked.Wanted.the-variants as wanted
 use Rattle.shell.specs.declared.exports.Begun.{Begun}
 use Rattle.shell.specs.declared.exports.Shape.{Shape}
 use Rattle.shell.specs.declared.exports.Stepped.{Stepped}
-use Rattle.answers.specs.Answers.{Values, refused, none, byte, event, paused, Told, turned, numberOf, valuesOf}
+use Rattle.answers.specs.Answers.{Values, refused, none, byte, event, reached, paused, Told, turned, numberOf, valuesOf}
 use Rattle.timer.specs.Calls.{answered}
 use Rattle.answers.specs.declared.Outcome.{Outcome}
 use Rattle.timer.specs.declared.calls.Call.{Call}
@@ -40,25 +40,37 @@ callOf q = known (calls q) (q .kind)
 
 -- ---- answers
 
--- 0 no value, 1 a byte, 2 the next event, 3 none to come, 4 a sync cycle, 5 a refusal
+-- 0 no value, 1 a byte, 2 the next event, 3 none to come, 4 a sync cycle, 5 a refusal, 6 an advance that came to its cycle
 abbrev pub whatOf : Values → ℕ
 whatOf refused = 5
 whatOf none = 0
 whatOf (byte v) = 1
-whatOf (event (next.At c)) = 2
+whatOf (event (next.At c f)) = 2
 whatOf (event next.Never) = 3
-whatOf (paused c) = 4
+whatOf (reached f) = 6
+whatOf (paused c f) = 4
 
 abbrev pub valueOf : Values → ℕ
 valueOf refused = 0
 valueOf none = 0
 valueOf (byte v) = v
-valueOf (event (next.At c)) = c .0
+valueOf (event (next.At c f)) = c .0
 valueOf (event next.Never) = 0
-valueOf (paused c) = c
+valueOf (reached f) = 0
+valueOf (paused c f) = c
+
+-- the flags of the next event, 0 where the answer has none
+abbrev pub flagsOf : Values → ℕ
+flagsOf refused = 0
+flagsOf none = 0
+flagsOf (byte v) = 0
+flagsOf (event (next.At c f)) = f
+flagsOf (event next.Never) = 0
+flagsOf (reached f) = f
+flagsOf (paused c f) = f
 
 abbrev pub replyOf : ℕ → Values → ℕ → Reply
-replyOf number values written = record { number = number; what = whatOf values; value = valueOf values; written = written }
+replyOf number values written = record { number = number; what = whatOf values; flags = flagsOf values; value = valueOf values; written = written }
 
 -- the code's outcome, its answer in numbers
 abbrev pub steppedOf : Outcome → Stepped

@@ -19,11 +19,13 @@ pub struct Asked {
 }
 
 // number is the refusal's, 0 for none. what is 0 for no value, 1 for a byte, 2 for the next event's cycle, 3 for none to
-// come, 4 for the sync cycle of an advance that stopped, 5 for a refusal; value has it. written counts the area's bytes.
+// come, 4 for the sync cycle of an advance that stopped, 5 for a refusal, 6 for an advance that came to its cycle; value has
+// it. flags are the next event's, of 2, 4 and 6. written counts the area's bytes.
 #[repr(C)]
 pub struct Reply {
     pub number: u8,
     pub what: u8,
+    pub flags: u8,
     pub value: u64,
     pub written: u64,
 }
@@ -65,13 +67,14 @@ impl Asked {
 }
 
 impl Reply {
-    // Yields a reply from its four numbers.
-    fn new(number: u8, what: u8, value: u64, written: usize) -> Reply
-        ensures { λ r. ⌜ r ≡ record { number = number; what = what; value = value; written = written } ⌝ }
+    // Yields a reply from its five numbers.
+    fn new(number: u8, what: u8, flags: u8, value: u64, written: usize) -> Reply
+        ensures { λ r. ⌜ r ≡ record { number = number; what = what; flags = flags; value = value; written = written } ⌝ }
     {
         Reply {
             number,
             what,
+            flags,
             value,
             written: written as u64,
         }
@@ -84,14 +87,15 @@ impl Reply {
         let answer = o.answer;
         let written = o.written;
         match answer {
-            Answer::Refused(n) => Reply::new(n, 5, 0, written),
-            Answer::Done => Reply::new(0, 0, 0, written),
-            Answer::Value(v) => Reply::new(0, 1, v as u64, written),
+            Answer::Refused(n) => Reply::new(n, 5, 0, 0, written),
+            Answer::Done => Reply::new(0, 0, 0, 0, written),
+            Answer::Value(v) => Reply::new(0, 1, 0, v as u64, written),
             Answer::Next(n) => match n {
-                Next::At(c) => Reply::new(0, 2, c.0, written),
-                Next::Never => Reply::new(0, 3, 0, written),
+                Next::At(c, f) => Reply::new(0, 2, f, c.0, written),
+                Next::Never => Reply::new(0, 3, 0, 0, written),
             },
-            Answer::Paused(c) => Reply::new(0, 4, c.0, written),
+            Answer::Reached(f) => Reply::new(0, 6, f, 0, written),
+            Answer::Paused(c, f) => Reply::new(0, 4, f, c.0, written),
         }
     }
 }

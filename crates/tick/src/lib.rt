@@ -1,5 +1,6 @@
 // One tick with its records.
 
+pub mod distance;
 pub mod flags;
 pub mod happenings;
 pub mod outputs;

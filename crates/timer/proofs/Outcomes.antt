@@ -14,7 +14,7 @@ use Rattle.counter.specs.declared.advance.Logged.{Logged}
 use Rattle.counter.specs.declared.state.Timer.{Timer}
 use Rattle.counter.specs.Capture.{captures}
 use Rattle.wave.specs.Distance.{gap}
-use Rattle.counter.specs.Next.{nextAt}
+use Rattle.counter.specs.Next.{nextAt, nextFlags}
 use Rattle.counter.specs.Halts.{latestTo, halting, asleepAt, awakeAt, reducedTo, prescaledAt, tsmTo, routedTo}
 use Rattle.counter.specs.Logs.{Logs}
 use Rattle.counter.specs.Modes.{modeOf, waveOf}
@@ -276,17 +276,17 @@ unfolding works
 written-is x address value cycle h e g = rw (← e, mod-eq-of-lt h) g
 
 -- ---- advance
-module _ (t : Timer) (cycle : ℕ) (area : List ℕ) {n : ℕ} {a : Advanced} {after : List ℕ} (v : Valid t) (e : n ≡ late t cycle) (z : n ≡ 0)
-    (g : Advances (advanced ticks t cycle (length area)) area a after) where
+module _ (t : Timer) (cycle : ℕ) (area : List ℕ) {n : ℕ} {a : Advanced} {after : List ℕ} {f : ℕ} (v : Valid t) (e : n ≡ late t cycle) (z : n ≡ 0)
+    (g : Advances (advanced ticks t cycle (length area)) area a after) (k : f ≡ nextFlags (a .timer)) where
   moved-is : answered ticks t call.Advance cycle area ≡ moved (advanced ticks t cycle (length area)) area
   unfolding answered performed refusalOf asks
   moved-is = simp (late-alone, ← e, z)
 
   -- it stopped before a tick whose records do not fit, or came to its cycle
-  pub stopped : a .paused ≡ true → Tells (answered ticks t call.Advance cycle area) (record { answer = answer.Paused (a .timer .clock .sync); timer = a .timer; written = a .written }) after
+  pub stopped : a .paused ≡ true → Tells (answered ticks t call.Advance cycle area) (record { answer = answer.Paused (a .timer .clock .sync) f; timer = a .timer; written = a .written }) after
   unfolding moved
-  stopped p = told-is t call.Advance cycle area v moved-is (g .timer) refl (simp (← g .timer, ← g .paused, p)) (g .written) (g .area)
+  stopped p = told-is t call.Advance cycle area v moved-is (g .timer) refl (simp (← g .timer, ← g .paused, p, k)) (g .written) (g .area)
 
-  pub came : a .paused ≡ false → Tells (answered ticks t call.Advance cycle area) (record { answer = answer.Done; timer = a .timer; written = a .written }) after
+  pub came : a .paused ≡ false → Tells (answered ticks t call.Advance cycle area) (record { answer = answer.Reached f; timer = a .timer; written = a .written }) after
   unfolding moved
-  came p = told-is t call.Advance cycle area v moved-is (g .timer) refl (simp (← g .paused, p)) (g .written) (g .area)
+  came p = told-is t call.Advance cycle area v moved-is (g .timer) refl (simp (← g .timer, ← g .paused, p, k)) (g .written) (g .area)

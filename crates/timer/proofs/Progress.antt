@@ -27,7 +27,7 @@ use Rattle.timer.proofs.Keeps.{last-valid}
 
 module _ (t : Timer) (cycle : ℕ) (r : runningOf t ≡ true) (n : nextAt t ≤ cycle) where
   -- the event's tick is due where its cycle has come
-  event-due : gap (waveOf t (modeOf t)) (t .counter) (t .ocr) < due t cycle
+  pub event-due : gap (waveOf t (modeOf t)) (t .counter) (t .ocr) < due t cycle
   unfolding due nextAt cycleAt ticksAt
   event-due =
       let l : ticksAt (prescalerOf t) (t .clock .sync .0) + (gap (waveOf t (modeOf t)) (t .counter) (t .ocr) + 1) ≤ ticksAt (prescalerOf t) cycle = le-div-iff-mul-le (running-divides t r) .1 (omega arith) in

@@ -16,7 +16,8 @@ use Rattle.time.specs.Units.{ticksAt}
 use Rattle.time.proofs.Clocks.{cycle-mono}
 use Rattle.counter.specs.Modes.{modeOf, waveOf, prescalerOf, runningOf}
 use Rattle.counter.specs.Next.{nextAt, nextOf}
-use Rattle.counter.specs.Setting.{settingAt}
+use Rattle.tick.specs.Distance.{flagsAhead}
+use Rattle.counter.specs.Setting.{settingAt, settingOf, movingOf}
 use Rattle.passage.specs.Passage.{ticks}
 use Rattle.counter.proofs.Bounds.{valid-sound}
 use Rattle.tick.proofs.Still.{tick-still, still-at, linear-suc}
@@ -40,14 +41,22 @@ next-told t cycle area {m} h = go (eqb (refusalOf t call.Next cycle) 0) h
     go true e = let z = sym (says-next t cycle area) ∙ e in cc
     go false e = absurd (let z : _≡_ {A = ℕ} 0 1 = cc in omega arith)
 
--- and its cycle the announced one
-announced-at : (t : Timer) {at : Cycle} → At at ≡ nextOf t → at .0 ≡ nextAt t
+-- of a counter that runs, at a cycle and with flags
+pub record Announces (t : Timer) (at : Cycle) (flags : ℕ) : Type 0 where
+  pub running : runningOf t ≡ true
+  pub cycle : at .0 ≡ nextAt t
+  pub raised : flags ≡ flagsAhead (settingOf t) (movingOf t)
+
+pub announces : (t : Timer) {at : Cycle} {flags : ℕ} → At at flags ≡ nextOf t → Announces t at flags
 unfolding nextOf
-announced-at t {at} h = go (runningOf t) h
+announces t {at} {flags} h = go (runningOf t) refl h
   where
-    go : (b : Bool) → At at ≡ cond b (At (record { 0 = nextAt t })) Never → at .0 ≡ nextAt t
-    go true e = let z : at ≡ record { 0 = nextAt t } = cc in rw z
-    go false e = absurd (let z : _≡_ {A = ℕ} 0 1 = cc in omega arith)
+    go : (b : Bool) → runningOf t ≡ b → At at flags ≡ cond b (At (record { 0 = nextAt t }) (flagsAhead (settingOf t) (movingOf t))) Never → Announces t at flags
+    go true r e =
+        let z : at ≡ record { 0 = nextAt t } = cc in
+        let f : flags ≡ flagsAhead (settingOf t) (movingOf t) = cc in
+        record { running = r; cycle = rw z; raised = f }
+    go false r e = absurd (let z : _≡_ {A = ℕ} 0 1 = cc in omega arith)
 
 -- a tick before that cycle is one of the quiet ones
 below : (t : Timer) (n : ℕ) → tickCycle t (suc n) < nextAt t → n < gap (waveOf t (modeOf t)) (t .counter) (t .ocr)
@@ -66,6 +75,6 @@ below t n h = go (leb g n) refl
 
 pub quiet : Quiet
 unfolding settingAt
-quiet c e qs cycle area at n h l =
+quiet c e qs cycle area at flags n h l =
     let v = valid-sound _ (last-valid _ qs (fresh-is-valid c e)) in
-    tick-still _ _ (still-at _ _ (v .steady) n (below _ n (rw (announced-at _ (next-told _ cycle area h)) at l))) ∙ simp linear-suc
+    tick-still _ _ (still-at _ _ (v .steady) n (below _ n (rw (announces _ (next-told _ cycle area h) .cycle) at l))) ∙ simp linear-suc

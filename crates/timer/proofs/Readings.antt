@@ -5,8 +5,10 @@ use Rattle.config.specs.Config.{pairAt, controlAt, placeOf}
 use Rattle.counter.specs.Capture.{captures, captured, ticksOn}
 use Rattle.wave.specs.Count.{topOf, falls, hits, overflows, loads, nextCount, nextDirection, atTop, atZero, rising}
 use Rattle.tick.specs.Tick.{eventsAt, raised, raises, line, lines, flagEntry, triggerEntry, flagLogOf, tickBy}
-use Rattle.wave.specs.Distance.{space, ahead, gapAt, gap}
-use Rattle.counter.specs.Next.{nextAt, nextOf}
+use Rattle.tick.specs.Skip.{linear}
+use Rattle.tick.specs.Distance.{flagsAhead}
+use Rattle.wave.specs.Distance.{space, ahead, gapAt, gap, moved as stepped}
+use Rattle.counter.specs.Next.{nextAt, nextOf, nextFlags}
 use Rattle.counter.specs.Fresh.{freshOf}
 use Rattle.counter.specs.Halts.{halting, asleepAt, awakeAt, reducedTo, prescaledAt, tsmTo, routedTo, resetAt}
 use Rattle.counter.specs.Logs.{struck}
@@ -24,5 +26,5 @@ use Rattle.timer.specs.Readings.{played, replayed, Readings}
 use Rattle.answers.specs.Refusals.{isDue, late, refusal}
 
 pub readings-hold : Readings
-unfolding bytesOf recordOf recordsOf pairAt controlAt placeOf captures captured chosen ticksOn struck topOf falls hits overflows loads nextCount nextDirection atTop atZero rising eventsAt raised raises line lines flagEntry triggerEntry flagLogOf tickBy space ahead gapAt gap nextAt nextOf freshOf halting asleepAt awakeAt reducedTo prescaledAt tsmTo routedTo resetAt modeAt kindAt sourceAt fixedAt maxAt togglesAt divisorAt modeOf waveOf divisorOf heldOf runningOf pinEntry recorded onPin acted levelOf matched bottomed matchesOf bottomsOf outputs one ticks due start syncTo syncOf passed synced advanced immediate compareTo wordOf packed controlOf peeked readValue readTimer committed commit stored configured reapplied strobed drivenBy driven storedA storedB strobes writtenA writtenB written enabledAt channelOf settingAt ticksAt cycleAt edgeCaptures edgeTicks outputCaptures asks works says before worked moved performed refusalOf answered played replayed isDue late refusal
+unfolding bytesOf recordOf recordsOf pairAt controlAt placeOf captures captured chosen ticksOn struck topOf falls hits overflows loads nextCount nextDirection atTop atZero rising eventsAt raised raises line lines flagEntry triggerEntry flagLogOf tickBy space ahead gapAt gap stepped linear flagsAhead nextFlags nextAt nextOf freshOf halting asleepAt awakeAt reducedTo prescaledAt tsmTo routedTo resetAt modeAt kindAt sourceAt fixedAt maxAt togglesAt divisorAt modeOf waveOf divisorOf heldOf runningOf pinEntry recorded onPin acted levelOf matched bottomed matchesOf bottomsOf outputs one ticks due start syncTo syncOf passed synced advanced immediate compareTo wordOf packed controlOf peeked readValue readTimer committed commit stored configured reapplied strobed drivenBy driven storedA storedB strobes writtenA writtenB written enabledAt channelOf settingAt ticksAt cycleAt edgeCaptures edgeTicks outputCaptures asks works says before worked moved performed refusalOf answered played replayed isDue late refusal
 readings-hold = refl

@@ -11,7 +11,7 @@ use Rattle.config.specs.Config.{placeOf}
 use Rattle.counter.specs.declared.state.Timer.{Timer}
 use Rattle.counter.specs.Parts.{flagsTo}
 use Rattle.counter.specs.Capture.{captures, captured, ticksOn}
-use Rattle.counter.specs.Next.{nextOf}
+use Rattle.counter.specs.Next.{nextFlags, nextOf}
 use Rattle.counter.specs.Halts.{latestTo, halting, asleepAt, awakeAt, reducedTo, prescaledAt, tsmTo, routedTo, resetAt}
 use Rattle.counter.specs.Logs.{Noted, silent, struck}
 use Rattle.passage.specs.Passage.{Passage}
@@ -19,7 +19,7 @@ use Rattle.counter.specs.Passage.{Passed, synced, advanced, syncTo}
 use Rattle.counter.specs.Registers.{isHigh, immediate, peeked, readValue, readTimer, written}
 use Rattle.timer.specs.declared.calls.Call.{Call}
 use Rattle.timer.specs.declared.calls.Call.the-variants as call
-use Rattle.answers.specs.Answers.{Values, none, byte, event, paused, Told, turned, given, fitted}
+use Rattle.answers.specs.Answers.{Values, none, byte, event, reached, paused, Told, turned, given, fitted}
 use Rattle.answers.specs.Refusals.{refusal}
 
 -- ---- which timer a call concerns
@@ -153,9 +153,9 @@ unfoldable pub worked : Passed → Timer → Call → ℕ → List ℕ → Told
 worked x was c cycle area =
     fitted was (latestTo (works (x .timer) c cycle .timer) cycle) (says (x .timer) c) (x .bytes ++ recordsOf cycle (works (x .timer) c cycle .log)) area
 
--- an advance stops before the first tick whose records do not fit, and then answers its sync cycle
+-- an advance stops before the first tick whose records do not fit, and then answers its sync cycle; done or paused it answers the flags of the then next event (02, 2.2)
 unfoldable pub moved : Passed → List ℕ → Told
-moved x area = given (x .timer) (cond (x .paused) (paused (x .timer .clock .sync .0)) none) (x .bytes) area
+moved x area = given (x .timer) (cond (x .paused) (paused (x .timer .clock .sync .0) (nextFlags (x .timer))) (reached (nextFlags (x .timer)))) (x .bytes) area
 
 -- the advance, or any other call
 unfoldable pub performed : Passage → Timer → Call → ℕ → List ℕ → Told

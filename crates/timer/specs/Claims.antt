@@ -90,9 +90,9 @@ tickCycle t n = cycleAt (prescalerOf t) (ticksAt (prescalerOf t) (t .clock .sync
 
 -- Quiet: after any list, a prescaled tick whose cycle lies before the cycle that next answers only steps the count, adds one to the odometer and lifts a blocked match
 abbrev pub Quiet : Type 0
-Quiet = (c : Config) → accepted c ≡ true → (qs : List Request) (cycle : ℕ) (area : List ℕ) (at : Cycle) (n : ℕ) → let t = last ticks (freshOf c) qs in
+Quiet = (c : Config) → accepted c ≡ true → (qs : List Request) (cycle : ℕ) (area : List ℕ) (at : Cycle) (flags n : ℕ) → let t = last ticks (freshOf c) qs in
     let w = waveOf t (modeOf t) in
-    told ticks t (record { call = call.Next; cycle = cycle; area = area }) .values ≡ event (At at) → tickCycle t (suc n) < at .0
+    told ticks t (record { call = call.Next; cycle = cycle; area = area }) .values ≡ event (At at flags) → tickCycle t (suc n) < at .0
     → tick (settingOf t) (linear w n (movingOf t)) ≡ record { moving = linear w (suc n) (movingOf t); log = [] }
 
 -- Progress: an area of 110 bytes always gets one event tick done

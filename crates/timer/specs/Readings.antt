@@ -14,7 +14,7 @@ use Rattle.counter.specs.Fresh.{freshOf}
 use Rattle.passage.specs.Passage.{ticks}
 use Rattle.timer.specs.declared.calls.Call.{Call}
 use Rattle.timer.specs.declared.calls.Call.the-variants.{Advance, Next, Read, Peek, Write, Edge, Tifr, Sleep, Wake}
-use Rattle.answers.specs.Answers.{Values, none, byte, event, Told}
+use Rattle.answers.specs.Answers.{Values, none, byte, event, reached, Told}
 use Rattle.timer.specs.Calls.{answered}
 
 -- a pin
@@ -98,13 +98,13 @@ reads address cycle value = record { call = Peek address; cycle = cycle; number 
 abbrev pub gives : ℕ → ℕ → ℕ → Step
 gives address cycle value = record { call = Read address; cycle = cycle; number = 0; values = byte value; bytes = [] }
 
--- the next event asked for
-abbrev pub announces : ℕ → ℕ → Step
-announces cycle next = record { call = Next; cycle = cycle; number = 0; values = event (At (record { 0 = next })); bytes = [] }
+-- the next event asked for: its cycle, and the flags that its tick will raise (02, 2.2)
+abbrev pub announces : ℕ → ℕ → ℕ → Step
+announces cycle next raise = record { call = Next; cycle = cycle; number = 0; values = event (At (record { 0 = next }) raise); bytes = [] }
 
--- an advance that gets there, with its records
-abbrev pub reaches : ℕ → List ℕ → Step
-reaches cycle bytes = record { call = Advance; cycle = cycle; number = 0; values = none; bytes = bytes }
+-- an advance that gets there, with its records, and the flags of the then next event (02, 2.2)
+abbrev pub reaches : ℕ → List ℕ → ℕ → Step
+reaches cycle bytes raise = record { call = Advance; cycle = cycle; number = 0; values = reached raise; bytes = bytes }
 
 -- flags of timer 0 raised at a cycle below 2^16, with no line high
 abbrev pub flags : ℕ → ℕ → ℕ → List ℕ
@@ -141,38 +141,38 @@ readings =
     record {
       timer = timer0;
       steps =
-          sets 0x45 0x01 0 ∷ announces 0 1 ∷ reaches 1 (flags 0 1 6 ++ trigger 0 1 0x10 ++ trigger 0 1 0x20) ∷ announces 1 256 ∷ [];
+          sets 0x45 0x01 0 ∷ announces 0 1 6 ∷ reaches 1 (flags 0 1 6 ++ trigger 0 1 0x10 ++ trigger 0 1 0x20) 1 ∷ announces 1 256 1 ∷ [];
     }
-    ∷ record { timer = timer0; steps = ctc ++ (announces 0 8000 ∷ reaches 8000 (matchA 0x1F 0x40) ∷ announces 8000 16000 ∷ []) }
-    ∷ record { timer = timer0; steps = ctc ++ (sets 0x46 124 0 ∷ announces 0 64 ∷ reaches 64 [] ∷ reads 0x46 64 0 ∷ announces 64 8064 ∷ []) }
+    ∷ record { timer = timer0; steps = ctc ++ (announces 0 8000 2 ∷ reaches 8000 (matchA 0x1F 0x40) 2 ∷ announces 8000 16000 2 ∷ []) }
+    ∷ record { timer = timer0; steps = ctc ++ (sets 0x46 124 0 ∷ announces 0 64 0 ∷ reaches 64 [] 2 ∷ reads 0x46 64 0 ∷ announces 64 8064 2 ∷ []) }
     ∷ record {
       timer = timer0;
       steps =
           sets 0x44 0x02 0 ∷ sets 0x47 10 0 ∷ sets 0x48 200 0 ∷ sets 0x46 11 0 ∷ sets 0x45 0x01 0
-          ∷ announces 0 190 ∷ reaches 190 (matchB 0 190) ∷ announces 190 245 ∷ reaches 245 (overflow 0 245) ∷ announces 245 256 ∷ reaches 256 (matchA 1 0) ∷ [];
+          ∷ announces 0 190 4 ∷ reaches 190 (matchB 0 190) 1 ∷ announces 190 245 1 ∷ reaches 245 (overflow 0 245) 2 ∷ announces 245 256 2 ∷ reaches 256 (matchA 1 0) 2 ∷ [];
     }
     ∷ record {
       timer = timer0;
       steps =
           sets 0x47 100 0 ∷ sets 0x48 255 0 ∷ sets 0x44 0x01 0 ∷ sets 0x45 0x01 0
-          ∷ reaches 101 (matchA 0 101) ∷ reaches 256 (matchB 1 0) ∷ reaches 411 (matchA 1 155) ∷ reaches 511 (overflow 1 255) ∷ [];
+          ∷ announces 0 101 2 ∷ reaches 101 (matchA 0 101) 4 ∷ reaches 256 (matchB 1 0) 2 ∷ reaches 411 (matchA 1 155) 1 ∷ reaches 511 (overflow 1 255) 2 ∷ [];
     }
     ∷ record {
       timer = timer0;
       steps =
           sets 0x47 0 0 ∷ sets 0x48 200 0 ∷ sets 0x44 0x01 0 ∷ sets 0x45 0x09 0
-          ∷ reaches 1 (matchA 0 1) ∷ reaches 2 (flags 0 2 3 ++ trigger 0 2 0x10 ++ trigger 0 2 0x30) ∷ [];
+          ∷ announces 0 1 2 ∷ reaches 1 (matchA 0 1) 3 ∷ reaches 2 (flags 0 2 3 ++ trigger 0 2 0x10 ++ trigger 0 2 0x30) 2 ∷ [];
     }
     ∷ record {
       timer = timer0;
       steps =
           sets 0x47 100 0 ∷ sets 0x48 255 0 ∷ sets 0x44 0x01 0 ∷ sets 0x45 0x01 0
-          ∷ reaches 300 (matchA 0 101 ++ matchB 1 0) ∷ reads 0x46 300 210 ∷ sets 0x44 0x00 300 ∷ reads 0x46 320 230 ∷ announces 320 346 ∷ [];
+          ∷ reaches 300 (matchA 0 101 ++ matchB 1 0) 2 ∷ reads 0x46 300 210 ∷ sets 0x44 0x00 300 ∷ reads 0x46 320 230 ∷ announces 320 346 5 ∷ [];
     }
     ∷ record {
       timer = timer1;
       steps =
-          sets 0x89 0x3D 0 ∷ sets 0x88 0x08 0 ∷ sets 0x8B 0xFF 0 ∷ sets 0x8A 0xFF 0 ∷ sets 0x81 0x0D 0 ∷ announces 0 16000000 ∷ [];
+          sets 0x89 0x3D 0 ∷ sets 0x88 0x08 0 ∷ sets 0x8B 0xFF 0 ∷ sets 0x8A 0xFF 0 ∷ sets 0x81 0x0D 0 ∷ announces 0 16000000 2 ∷ [];
     }
     ∷ record {
       timer = timer1;
@@ -180,13 +180,13 @@ readings =
           sets 0x89 0xFF 0 ∷ sets 0x88 0xFF 0 ∷ sets 0x8B 0xFF 0 ∷ sets 0x8A 0xFF 0 ∷ sets 0x81 0x42 0
           ∷ record { call = Edge 14 1; cycle = 1003; number = 0; values = none; bytes = (0x40 ∷ 0 ∷ 0 ∷ 0 ∷ 0 ∷ 0 ∷ 3 ∷ 0xEB ∷ 0x20 ∷ 0 ∷ []) ++ (0x80 ∷ 0 ∷ 0 ∷ 0 ∷ 0 ∷ 0 ∷ 3 ∷ 0xEB ∷ 0x40 ∷ 0x10 ∷ []) }
           ∷ reads 0x86 1003 125 ∷ record { call = Edge 14 0; cycle = 1003; number = 0; values = none; bytes = [] } ∷ reads 0x86 1003 125
-          ∷ record { call = Tifr; cycle = 1003; number = 0; values = byte 0x20; bytes = [] } ∷ [];
+          ∷ record { call = Tifr; cycle = 1003; number = 0; values = byte 0x20; bytes = [] } ∷ announces 1003 524288 7 ∷ [];
     }
     ∷ record {
       timer = timer0;
       steps =
           sets 0x47 200 0 ∷ sets 0x48 200 0 ∷ sets 0x45 0x03 0 ∷ record { call = Sleep 2; cycle = 100; number = 0; values = none; bytes = [] }
-          ∷ record { call = Wake; cycle = 1000; number = 0; values = none; bytes = [] } ∷ reads 0x46 1000 1 ∷ announces 1000 13764 ∷ [];
+          ∷ record { call = Wake; cycle = 1000; number = 0; values = none; bytes = [] } ∷ reads 0x46 1000 1 ∷ announces 1000 13764 6 ∷ [];
     }
     ∷ record {
       timer = timer1;

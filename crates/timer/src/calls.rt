@@ -46,7 +46,8 @@ fn is_high(place: u8) -> bool
     (place <= 9) & (place % 2 == 1)
 }
 
-// Time passes up to a cycle, or to the first tick whose records do not fit; yields the sync cycle where it stops.
+// Time passes up to a cycle, or to the first tick whose records do not fit; yields the flags of the then next event, and the
+// sync cycle where it stops.
 pub fn advance(t: Timer, cycle: Cycle, area: &mut [u8]) -> Outcome
     requires { ⌜ Valid t ⌝ }
     ensures { λ r. ⌜ Tells (answered ticks t Call.Advance (cycle .0) (now (area .entry))) r (now (area .exit)) ⌝ }
@@ -57,24 +58,25 @@ pub fn advance(t: Timer, cycle: Cycle, area: &mut [u8]) -> Outcome
     }
     let a = t.advance(cycle, area);
     let u = a.timer;
+    let flags = u.next_flags();
     if a.paused {
         let clock = u.clock;
         let sync = clock.sync;
         Outcome {
-            answer: Answer::Paused(sync),
+            answer: Answer::Paused(sync, flags),
             timer: u,
             written: a.written,
         }
     } else {
         Outcome {
-            answer: Answer::Done,
+            answer: Answer::Reached(flags),
             timer: u,
             written: a.written,
         }
     }
 }
 
-// Yields the next event.
+// Yields the next event with its flags.
 pub fn next(t: Timer, cycle: Cycle, area: &mut [u8]) -> Outcome
     requires { ⌜ Valid t ⌝ }
     ensures { λ r. ⌜ Tells (answered ticks t Call.Next (cycle .0) (now (area .entry))) r (now (area .exit)) ⌝ }

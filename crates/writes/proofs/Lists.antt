@@ -106,14 +106,16 @@ number-kept (answer.Refused n) = refl
 number-kept answer.Done = refl
 number-kept (answer.Value v) = refl
 number-kept (answer.Next n) = refl
-number-kept (answer.Paused c) = refl
+number-kept (answer.Reached f) = refl
+number-kept (answer.Paused c f) = refl
 
 values-kept : (a : Answer) → stopping (valuesOf a) ≡ true → valuesOf (reasonOf (whyOf a)) ≡ valuesOf a
 values-kept (answer.Refused n) e = refl
 values-kept answer.Done e = refl
 values-kept (answer.Value v) e = cc
 values-kept (answer.Next n) e = cc
-values-kept (answer.Paused c) e = refl
+values-kept (answer.Reached f) e = cc
+values-kept (answer.Paused c f) e = refl
 
 pub stops-there : (t : Timer) (list before : List ℕ) (u : Timer) (done to : ℕ) (area : List ℕ) {i : Item} {o : Outcome} {part : List ℕ} {b : Bool} {y : Why}
     → length list % 10 ≡ 0 → Going t list before u done to area → done < count list → i ≡ itemIn (take 10 (drop (done * 10) list))

@@ -107,4 +107,4 @@ readOf room list =
 -- both are done with 30 bytes of area; with 29 the second's advance pauses at cycle 0
 pub record ListReading : Type 0 where
   pub fits : readOf 30 twoWrites ≡ record { done = 2; number = 0; values = none; bytes = flags 0 1 6 ++ trigger 0 1 0x10 ++ trigger 0 1 0x20 }
-  pub pauses : readOf 29 twoWrites ≡ record { done = 1; number = 0; values = paused 0; bytes = [] }
+  pub pauses : readOf 29 twoWrites ≡ record { done = 1; number = 0; values = paused 0 6; bytes = [] }

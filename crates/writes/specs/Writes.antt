@@ -9,7 +9,7 @@ use Rattle.counter.specs.declared.state.Timer.{Timer}
 use Rattle.passage.specs.Passage.{Passage}
 use Rattle.answers.specs.declared.Answer.{Answer}
 use Rattle.answers.specs.declared.Answer.the-variants as answer
-use Rattle.answers.specs.Answers.{Values, refused, none, byte, event, paused, Told, turned, answerOf, Tells}
+use Rattle.answers.specs.Answers.{Values, refused, none, byte, event, reached, paused, Told, turned, answerOf, Tells}
 use Rattle.timer.specs.declared.calls.Call.the-variants as call
 use Rattle.timer.specs.Calls.{answered}
 use Rattle.writes.specs.declared.items.Item.{Item}
@@ -26,7 +26,8 @@ stopping refused = true
 stopping none = false
 stopping (byte v) = false
 stopping (event n) = false
-stopping (paused c) = true
+stopping (reached f) = false
+stopping (paused c f) = true
 
 -- ---- one item
 
@@ -77,12 +78,13 @@ whyOf (answer.Refused n) = why.Refused n
 whyOf answer.Done = why.AllDone
 whyOf (answer.Value v) = why.AllDone
 whyOf (answer.Next n) = why.AllDone
-whyOf (answer.Paused c) = why.Paused c
+whyOf (answer.Reached f) = why.AllDone
+whyOf (answer.Paused c f) = why.Paused c f
 
 -- the answer of each case of the code's reason, whose number and values are 01's (02, 2.1)
 abbrev pub reasonOf : Why → Answer
 reasonOf why.AllDone = answer.Done
-reasonOf (why.Paused c) = answer.Paused c
+reasonOf (why.Paused c f) = answer.Paused c f
 reasonOf (why.Refused n) = answer.Refused n
 
 -- the items done, and of timer, reason, bytes written and every byte of the area what a call tells; the timer that comes out is valid

@@ -15,10 +15,11 @@ ghost use Rattle.counter.specs.Valid.{Valid};
 ghost use Rattle.answers.specs.Answers.{Tells, valuesOf};
 ghost use Rattle.writes.specs.Writes.{stopping, whyOf, worked, listing, Lists};
 
-// Why a list ended: every item is done, an advance paused at its sync cycle, or a refusal's number.
+// Why a list ended: every item is done, an advance paused at its sync cycle with the flags of the then next event, or a
+// refusal's number.
 pub enum Why {
     AllDone,
-    Paused(Cycle),
+    Paused(Cycle, u8),
     Refused(u8),
 }
 
@@ -39,7 +40,8 @@ fn stops(answer: Answer) -> bool
         Answer::Done => false,
         Answer::Value(v) => false,
         Answer::Next(n) => false,
-        Answer::Paused(c) => true,
+        Answer::Reached(f) => false,
+        Answer::Paused(c, f) => true,
     }
 }
 
@@ -53,7 +55,8 @@ impl Why {
             Answer::Done => Why::AllDone,
             Answer::Value(v) => Why::AllDone,
             Answer::Next(n) => Why::AllDone,
-            Answer::Paused(c) => Why::Paused(c),
+            Answer::Reached(f) => Why::AllDone,
+            Answer::Paused(c, f) => Why::Paused(c, f),
         }
     }
 }

@@ -7,7 +7,7 @@ use mcs::scheduler::{EventKey, Scheduler};
 use mcs::timer::{Timer, EVENT};
 
 use super::{advance, records, setup, Follow};
-use crate::script::{Call, Config, State};
+use crate::script::{self, Call, Config, State};
 
 /// The timer is the only peripheral.
 const ME: u8 = 0;
@@ -52,6 +52,19 @@ impl Bench {
         let mut copy = self.clone();
         copy.with(self.cpu.cycles, |timer, cx| timer.reschedule(cx));
         copy.held_event()
+    }
+
+    /// That event with the flags that its tick raises, which the Rust does not say: it works the tick on a copy with a
+    /// cleared TIFR, upwards in N, C and F, so that an answer never differs from the sheet's in its flags alone.
+    pub fn announced(&self) -> Option<script::Event> {
+        let cycle = self.next_event()?;
+        let mut copy = self.clone();
+        copy.cpu.data[TIFR as usize] = 0;
+        if copy.timer.skips_down() {
+            copy.timer.turn(1);
+        }
+        copy.call(Call::Advance, cycle, Follow::Rust);
+        Some(script::Event { cycle, flags: copy.cpu.data[TIFR as usize] })
     }
 
     /// The event that the Rust's scheduler holds.

@@ -116,8 +116,8 @@ impl Held {
         held.latest = held.latest.max(worked.paused.unwrap_or(cycle));
         let bytes = worked.bytes.len();
         let answer = match worked.paused {
-            Some(cycle) => Answer::Paused { cycle, bytes },
-            None => Answer::Done { value: worked.value, next: held.bench.next_event(), bytes },
+            Some(cycle) => Answer::Paused { cycle, next: held.bench.announced(), bytes },
+            None => Answer::Done { value: worked.value, next: held.bench.announced(), bytes },
         };
         Outcome { held, answer, records: worked.bytes }
     }

@@ -122,6 +122,8 @@ bends! {
     RefusedKeepsWork "refused-keeps-work" "number 8 takes back nothing",
     EventForgetsC "event-forgets-c" "the next event passes compare C over",
     BlockedEventSkipped "blocked-event-skipped" "the next event passes a blocked compare over",
+    BlockedMatchAnnounced "blocked-match-announced" "the next event's flags name a blocked match",
+    FlagsAsItStands "flags-as-it-stands" "the next event's flags are those of the count as it stands",
     LastPinRefused "last-pin-refused" "number 1 for pin 247",
     ForceMustDiffer "force-must-differ" "number 1 where force equals a control",
     FlagsMayMeet "flags-may-meet" "two units may share a flag",

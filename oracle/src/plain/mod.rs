@@ -52,10 +52,10 @@ impl Plain {
         let reached = if timer.bent(Bend::PauseAcceptsCycle) { cycle } else { timer.sync };
         timer.latest = timer.latest.max(reached);
         self.store(&log, area);
-        let (next, bytes) = (timer.next_event(), log.bytes.len());
+        let (next, bytes) = (timer.announced(), log.bytes.len());
         self.timer = Some(timer);
         match paused {
-            Some(cycle) => Answer::Paused { cycle, bytes },
+            Some(cycle) => Answer::Paused { cycle, next, bytes },
             None => Answer::Done { value: None, next, bytes },
         }
     }
@@ -71,7 +71,7 @@ impl Plain {
         if call != Call::Next || !timer.bent(Bend::NextKeepsLatest) {
             timer.latest = cycle;
         }
-        let next = timer.next_event();
+        let next = timer.announced();
         self.timer = Some(timer);
         if exceeds {
             return Answer::Refused(8);

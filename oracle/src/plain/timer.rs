@@ -3,9 +3,10 @@
 use std::rc::Rc;
 
 use super::bends::Bend;
+use super::log::Log;
 use super::setup::Setup;
 use super::tables::{self, Clock, Kind, Top};
-use crate::script::{ClockTable, State};
+use crate::script::{ClockTable, Event, State};
 
 #[derive(Clone)]
 pub struct Timer {
@@ -142,13 +143,28 @@ impl Timer {
         Some(self.next_tick(divisor) + self.quiet_ticks() as u64 * divisor)
     }
 
+    /// That event with the flags that its tick raises: the tick is worked on a copy, whose count the quiet ticks have stepped.
+    pub fn announced(&self) -> Option<Event> {
+        let cycle = self.next_event()?;
+        let mut copy = self.clone();
+        let quiet = if self.bent(Bend::FlagsAsItStands) { 0 } else { self.quiet_ticks() };
+        copy.blocked &= quiet == 0 && !self.bent(Bend::BlockedMatchAnnounced);
+        copy.count = if self.falls() { self.count - quiet } else { self.count + quiet };
+        copy.tifr = 0;
+        copy.tick(cycle, &mut Log::default());
+        Some(Event { cycle, flags: copy.tifr })
+    }
+
+    fn falls(&self) -> bool {
+        self.direction < 0 && matches!(self.kind(), Kind::P | Kind::Q)
+    }
+
     /// How many ticks only step the count: up to a compare, TOP or MAX, or down to a compare or 0.
     fn quiet_ticks(&self) -> u32 {
         let shown = |&ch: &usize| self.setup.channels[ch].present && !(ch == 2 && self.bent(Bend::EventForgetsC));
         let passed = |value: u32| self.bent(Bend::BlockedEventSkipped) && self.blocked && value == self.count;
         let mut places: Vec<u32> = (0..3).filter(shown).map(|ch| self.active[ch]).filter(|&v| !passed(v)).collect();
-        let falling = self.direction < 0 && matches!(self.kind(), Kind::P | Kind::Q);
-        if falling {
+        if self.falls() {
             places.push(0);
             return places.into_iter().filter(|&p| p <= self.count).map(|p| self.count - p).min().unwrap_or(0);
         }

@@ -2,17 +2,25 @@
 
 use std::fmt;
 
+/// The next event: its cycle, and the TIFR bits that its tick will raise.
+#[derive(Clone, Copy, Debug, PartialEq, Eq)]
+pub struct Event {
+    pub cycle: u64,
+    pub flags: u8,
+}
+
 #[derive(Clone, Debug, PartialEq)]
 pub enum Answer {
     Config,
     Refused(u8),
     Done {
         value: Option<u8>,
-        next: Option<u64>,
+        next: Option<Event>,
         bytes: usize,
     },
     Paused {
         cycle: u64,
+        next: Option<Event>,
         bytes: usize,
     },
     NoTimer,
@@ -55,9 +63,9 @@ impl Answer {
             Self::Refused(number) => format!("refused {number}"),
             Self::Done { value, next, .. } => {
                 let value = value.map_or("-".into(), |v| format!("{v:02x}"));
-                format!("ok value={value} next={} {}", or_none(*next), records())
+                format!("ok value={value} {} {}", event(*next), records())
             }
-            Self::Paused { cycle, .. } => format!("paused cycle={cycle} {}", records()),
+            Self::Paused { cycle, next, .. } => format!("paused cycle={cycle} {} {}", event(*next), records()),
             Self::NoTimer => "no timer".into(),
             Self::Pin { level, volts, changed, contention } => {
                 format!(
@@ -77,6 +85,10 @@ impl Answer {
             Self::Panics(why) => format!("panics: {why}"),
         }
     }
+}
+
+fn event(next: Option<Event>) -> String {
+    next.map_or("next=none flags=-".into(), |Event { cycle, flags }| format!("next={cycle} flags={flags:02x}"))
 }
 
 fn or_none(cycle: Option<u64>) -> String {

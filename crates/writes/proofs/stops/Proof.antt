@@ -17,6 +17,9 @@ returns-4 c = rw (c .before .answer3 .given .1)
 returns-5 : tie.Need-returns-5
 returns-5 c = rw (c .before .answer4 .given .1)
 
+returns-6 : tie.Need-returns-6
+returns-6 c = rw (c .before .answer5 .given .1)
+
 pub stops-spec : {M : Type 1} → statement M
 stops-spec =
     tie.close
@@ -26,8 +29,10 @@ stops-spec =
     (λ c. search needs)
     (λ c. search needs)
     (λ c. search needs)
+    (λ c. search needs)
     returns
     returns-2
     returns-3
     returns-4
-    returns-5)
+    returns-5
+    returns-6)

@@ -1,17 +1,19 @@
-use Rattle.answers.proofs.Outcomes.{event-due, never-due}
 use mathlib.Core.Path.{sym, _∙_}
 use borrow.Author.Needs.{needs}
+use Rattle.answers.specs.Refusals.{isDue}
 use Rattle.answers.proofs.refusals.is_due.Statement.{statement}
 use Rattle.answers.proofs.refusals.is_due.Tie as tie
 
-next-requires : tie.Need-next-requires
-next-requires c κs = c .pre
+next-cycle-requires : tie.Need-next-cycle-requires
+next-cycle-requires c κs = (c .before .before .pre, sym (c .before .running .ensures) ∙ c .if1 .taken)
 
 returns : tie.Need-returns
-returns c = event-due _ _ (sym (c .before .before .before .next2 .given .1) ∙ c .before .before .before .before .before .next .ensures)
+unfolding isDue
+returns c = simp (← c .before .before .before .before .running .ensures, c .before .before .before .if1 .taken, ← c .before .before .next-cycle .ensures)
 
 returns-2 : tie.Need-returns-2
-returns-2 c = never-due _ _ (sym (c .enum-told .given .1) ∙ c .before .before .next .ensures)
+unfolding isDue
+returns-2 c = simp (← c .before .running .ensures, c .if1 .left)
 
 pub is-due-spec : {M : Type 1} → statement M
-is-due-spec = tie.close (tie.spec next-requires (λ c. search needs) (λ c. search needs) returns returns-2)
+is-due-spec = tie.close (tie.spec (λ c κs. search needs) next-cycle-requires returns returns-2)

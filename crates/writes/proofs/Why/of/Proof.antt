@@ -5,8 +5,8 @@ use Rattle.writes.proofs.Why.of.Tie as tie
 returns : tie.Need-returns
 returns c = rw (c .before .answer .given .1)
 
-returns-5 : tie.Need-returns-5
-returns-5 c = rw (c .before .answer4 .given .1)
+returns-6 : tie.Need-returns-6
+returns-6 c = rw (c .before .answer5 .given .1)
 
 pub of-spec : {M : Type 1} → statement M
 of-spec =
@@ -17,8 +17,10 @@ of-spec =
     (λ c. search needs)
     (λ c. search needs)
     (λ c. search needs)
+    (λ c. search needs)
     returns
     (λ c. search needs)
     (λ c. search needs)
     (λ c. search needs)
-    returns-5)
+    (λ c. search needs)
+    returns-6)

@@ -20,6 +20,9 @@ returns-5 c = rw (c .new5 .ensures, c .before .before .before .before .answer3 .
 returns-6 : tie.Need-returns-6
 returns-6 c = rw (c .new6 .ensures, c .before .before .answer4 .given .1)
 
+returns-7 : tie.Need-returns-7
+returns-7 c = rw (c .new7 .ensures, c .before .before .answer5 .given .1)
+
 pub of-spec : {M : Type 1} → statement M
 of-spec =
     tie.close
@@ -38,9 +41,12 @@ of-spec =
     (λ c κs. search needs)
     (λ c. search needs)
     (λ c κs. search needs)
+    (λ c. search needs)
+    (λ c κs. search needs)
     returns
     returns-2
     returns-3
     returns-4
     returns-5
-    returns-6)
+    returns-6
+    returns-7)

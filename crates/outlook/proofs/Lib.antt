@@ -1,0 +1,6 @@
+pub mod Ahead
+pub mod Passing
+pub mod Same
+pub mod Untouched
+pub mod Flagged
+pub mod Announced
