@@ -66,11 +66,15 @@ enum pm_what { PM_NOTHING, PM_BYTE, PM_EVENT_AT, PM_NO_EVENT, PM_PAUSED_AT, PM_R
  * PM_EVENT_AT, PM_PAUSED_AT and PM_REACHED, 0 where there is no next event. */
 struct pm_reply { uint8_t number, what, flags; uint64_t value, written; };
 
+/* ticks: to the next event's, from the timer's last; flags: the TIFR bits that its tick will raise; looked: the compares looked at to know it. */
+struct pm_distance { uint32_t ticks; uint8_t flags, looked; };
+
 struct pm_area { uint8_t *start; size_t length; };
 struct pm_shape { uint64_t size, align; };
 
 struct pm_shape paddlemauve_shape(void);
 struct pm_begun paddlemauve_start(struct pm_config config);
+struct pm_distance paddlemauve_distance(struct pm_timer timer);
 struct pm_reply paddlemauve_call(struct pm_timer *timer, struct pm_asked asked, struct pm_area area);
 
 /* The bytes of a record, and those of an area that holds the records of any call's one event. */

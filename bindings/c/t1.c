@@ -20,6 +20,9 @@ int main(void) {
     struct pm_reply next = paddlemauve_call(&begun.timer, (struct pm_asked){.kind = PM_NEXT, .cycle = 0}, area);
     assert(next.number == 0 && next.what == PM_EVENT_AT && next.value == 1 && next.flags == 6);
 
+    struct pm_distance distance = paddlemauve_distance(begun.timer);
+    assert(distance.ticks == 1 && distance.flags == 6 && distance.looked == 1);
+
     struct pm_reply done = paddlemauve_call(&begun.timer, (struct pm_asked){.kind = PM_ADVANCE, .cycle = 1}, area);
     assert(done.number == 0 && done.what == PM_REACHED && done.flags == 1 && done.written == 3 * PM_RECORD && bytes[done.written] == 0);
     struct pm_record flags = pm_read_record(bytes), a = pm_read_record(bytes + PM_RECORD), b = pm_read_record(bytes + 2 * PM_RECORD);

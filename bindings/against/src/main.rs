@@ -60,8 +60,9 @@ fn script(lines: &[String], figures: &mut Figures) -> Result<(), String> {
                 let (theirs, mine) = both(&mut judge, &mut ours, call, cycle, area, figures);
                 same(n, line, &theirs, &mine)?;
                 same(n, line, &judge.state(), &ours.state())?;
+                same(n, line, &judge.distance(), &ours.distance())?;
             }
-            // `state` is compared after every call; pins and the scheduler are not the timer's.
+            // `state` and `distance` are compared after every call; pins and the scheduler are not the timer's.
             _ => (),
         }
     }

@@ -1,6 +1,6 @@
 //! The bindings as a side of the oracle's scripts.
 
-use oracle::script::{self, Answer, Event, State};
+use oracle::script::{self, Answer, Distance, Event, State};
 use paddlemauve::{Answer as Told, Call, Capture, Clocks, Compare, Config, Layout, Next, Outcome, Refusal, Timer};
 
 #[derive(Default)]
@@ -56,6 +56,13 @@ impl Ours {
 
     fn asked_next(&self) -> Option<Result<Option<Next>, Refusal>> {
         self.held.as_ref().map(|(_, timer)| timer.clone().next(timer.state().latest))
+    }
+
+    pub fn distance(&self) -> Option<Distance> {
+        self.held.as_ref().map(|(_, timer)| {
+            let paddlemauve::Distance { ticks, flags, looked } = timer.distance();
+            Distance { ticks: ticks.into(), flags, looked }
+        })
     }
 
     pub fn state(&self) -> Option<State> {

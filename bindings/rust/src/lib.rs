@@ -28,4 +28,4 @@ mod timer;
 pub use answer::{Answer, Call, Next, Outcome, Refusal};
 pub use config::{Capture, Clocks, Compare, Config, Layout};
 pub use record::{records, Event, Record, EVENT, RECORD};
-pub use timer::{Advanced, State, Timer};
+pub use timer::{Advanced, Distance, State, Timer};

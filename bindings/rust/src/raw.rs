@@ -140,6 +140,14 @@ pub struct Reply {
     pub written: u64,
 }
 
+#[repr(C)]
+#[derive(Clone, Copy)]
+pub struct Distance {
+    pub ticks: u32,
+    pub flags: u8,
+    pub looked: u8,
+}
+
 /// A `&mut [u8]` of Rattle.
 #[repr(C)]
 pub struct Area {
@@ -164,5 +172,6 @@ pub struct Shape {
 extern "C" {
     pub fn paddlemauve_shape() -> Shape;
     pub fn paddlemauve_start(config: Config) -> Begun;
+    pub fn paddlemauve_distance(timer: Timer) -> Distance;
     pub fn paddlemauve_call(timer: &mut Timer, asked: Asked, area: Area) -> Reply;
 }

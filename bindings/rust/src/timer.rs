@@ -58,6 +58,16 @@ pub enum Advanced {
     },
 }
 
+/// How far the next event's tick lies from the last one worked.
+#[derive(Clone, Copy, Debug, PartialEq, Eq)]
+pub struct Distance {
+    pub ticks: u32,
+    /// The TIFR bits that its tick will raise.
+    pub flags: u8,
+    /// How many compares were looked at: A, B, C in turn, up to the first that is one tick off, else all there are.
+    pub looked: u8,
+}
+
 impl Timer {
     /// A fresh timer at cycle 0; refused where the configuration breaks a rule.
     ///
@@ -215,6 +225,13 @@ impl Timer {
             routed: halts.routed,
             odometer: counter.odometer,
         }
+    }
+
+    /// The distance of the timer as it stands, running or not.
+    pub fn distance(&self) -> Distance {
+        // SAFETY: the timer came from the library and only the library has changed it, so it is valid.
+        let raw::Distance { ticks, flags, looked } = unsafe { raw::paddlemauve_distance(self.raw) };
+        Distance { ticks, flags, looked }
     }
 
     /// A call that yields a byte and writes no record.

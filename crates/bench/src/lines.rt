@@ -45,19 +45,20 @@ fn command(b: Bench, line: &[u8], page: &mut Page) -> Bench
     let end = find(line, start, b' ');
     // The calls come first, by their words: call_lines goes by these places.
     let name = place(
-        b"advance next reset wake tifr timsk read peek prr wtifr wtimsk presc route acout sleep tsm write edge config preset state pin sched",
+        b"advance next reset wake tifr timsk read peek prr wtifr wtimsk presc route acout sleep tsm write edge config preset state pin sched distance",
         &line[start..end],
     );
     match name {
         0..=17 => call_line(b, line, end, name, page),
         18 => config_line(b, line, end, page),
         19 => preset_line(b, line, end, page),
-        20 => state_line(b, line, end, page),
+        20 => state_line(b, line, end, false, page),
         21 => {
             let at = pin_line(page, b.at, b.line, line, end);
             b.answered(page, at)
         }
         22 => scheduled(b, line, end, page),
+        23 => state_line(b, line, end, true, page),
         _ => b.unreadable(page, UNKNOWN_COMMAND),
     }
 }

@@ -1,14 +1,15 @@
-// The line that shows the timer as it stands.
+// Lines that show the timer as it stands.
 
 use crate::bench::Bench;
+use display::state::distance;
 use display::state::state;
 use page::Page;
 use words::FINE;
 use words::exactly;
 ghost use Rattle.bench.specs.Bench.{Sound};
 
-// Answers a state line from the place after its name.
-pub fn state_line(b: Bench, line: &[u8], at: usize, page: &mut Page) -> Bench
+// Answers a state line, or a distance line, from the place after its name.
+pub fn state_line(b: Bench, line: &[u8], at: usize, far: bool, page: &mut Page) -> Bench
     requires { ⌜ Sound b ⌝ }
     ensures { λ r. ⌜ Sound r ⌝ }
 {
@@ -19,6 +20,10 @@ pub fn state_line(b: Bench, line: &[u8], at: usize, page: &mut Page) -> Bench
     if !b.ready {
         return b.says(page, b"no timer");
     }
-    let at = state(page, b.at, b.timer);
+    let at = if far {
+        distance(page, b.at, b.timer)
+    } else {
+        state(page, b.at, b.timer)
+    };
     b.answered(page, at)
 }

@@ -9,6 +9,7 @@ use page::byte;
 use page::number;
 use page::register;
 use page::text;
+ghost use Rattle.counter.specs.Valid.{Valid};
 
 // Puts a label and a compare's value, `-` where it is absent.
 fn compared(page: &mut Page, from: usize, label: &[u8], c: Compare, value: u32) -> usize {
@@ -147,4 +148,14 @@ pub fn state(page: &mut Page, from: usize, t: Timer) -> usize {
     let at = flags(page, at, t);
     let at = clock(page, at, t);
     number(page, at, b" odometer=", counter.odometer)
+}
+
+// Puts the distance to the next event's tick, the flags that this will raise, and the compares looked at.
+pub fn distance(page: &mut Page, from: usize, t: Timer) -> usize
+    requires { ⌜ Valid t ⌝ }
+{
+    let d = t.distance();
+    let at = number(page, from, b"distance ticks=", d.ticks as u64);
+    let at = register(page, at, b" flags=", d.flags);
+    number(page, at, b" looked=", d.looked as u64)
 }

@@ -7,6 +7,7 @@ use answers::Outcome;
 use answers::refused;
 use config::Config;
 use counter::state::Timer;
+use tick::distance::Distance;
 use time::units::Cycle;
 use timer::call;
 use timer::calls::advance;
@@ -15,6 +16,8 @@ use timer::calls::read;
 ghost use mathlib.Core.Path.{_≡_};
 ghost use Rattle.answers.specs.Answers.{Tells};
 ghost use Rattle.counter.specs.Fresh.{startedOf};
+ghost use Rattle.tick.specs.Distance.{distanceOf};
+ghost use Rattle.counter.specs.Setting.{settingOf, movingOf};
 ghost use Rattle.counter.specs.Valid.{Valid};
 ghost use Rattle.shell.specs.Numbers.{callOf, shape, steppedOf, answeredTo, Replies, Begins};
 
@@ -98,6 +101,15 @@ pub extern "C" fn paddlemauve_start(config: Config) -> Begun
         number: s.number,
         timer,
     }
+}
+
+// Yields the distance to the next event's tick, of the timer as it stands.
+#[no_mangle]
+pub extern "C" fn paddlemauve_distance(t: Timer) -> Distance
+    requires { ⌜ Valid t ⌝ }
+    ensures { λ r. ⌜ r ≡ distanceOf (settingOf t) (movingOf t) ⌝ }
+{
+    t.distance()
 }
 
 // Any call on a lent timer.

@@ -1,6 +1,6 @@
--- The distance answer: ticks, and the flags of the tick that they lead to (02, 2.2).
+-- The distance answer: ticks, the flags of the tick that they lead to, and the compares looked at (02, 2.2 and 2.4).
 use Prim.Native.Nat.{ℕ}
-use Rattle.wave.specs.Distance.{gap}
+use Rattle.wave.specs.Distance.{gap, looked}
 use Rattle.tick.specs.declared.distance.Distance.{Distance}
 use Rattle.tick.specs.declared.setting.Moving.{Moving}
 use Rattle.tick.specs.declared.setting.Setting.{Setting}
@@ -11,6 +11,6 @@ use Rattle.tick.specs.Tick.{eventsOf, raised}
 unfoldable pub flagsAhead : Setting → Moving → ℕ
 flagsAhead s m = raised s (eventsOf s (linear (s .wave) (gap (s .wave) (m .counter) (m .ocr)) m))
 
--- ticks and flags (02, 2.2)
+-- ticks, flags and looked (02, 2.2 and 2.4)
 abbrev pub distanceOf : Setting → Moving → Distance
-distanceOf s m = record { ticks = distance (s .wave) m; flags = flagsAhead s m }
+distanceOf s m = record { ticks = distance (s .wave) m; flags = flagsAhead s m; looked = looked (s .wave) (m .counter) (m .ocr) }

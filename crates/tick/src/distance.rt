@@ -6,10 +6,12 @@ ghost use mathlib.Core.Path.{_≡_};
 ghost use Rattle.tick.specs.Distance.{distanceOf};
 ghost use Rattle.tick.specs.Sound.{Steady};
 
-// Ticks until the next event's, and the flags, as TIFR bits, that its tick will raise.
+// Ticks until the next event's; the flags, as TIFR bits, that its tick will raise; and how many compares were looked at to know it.
+#[repr(C)]
 pub struct Distance {
     pub ticks: u32,
     pub flags: u8,
+    pub looked: u8,
 }
 
 impl Setting {
@@ -21,12 +23,14 @@ impl Setting {
         let wave = self.wave;
         let counter = m.counter;
         let ocr = m.ocr;
-        let gap = wave.gap(counter, ocr);
+        let found = wave.search(counter, ocr);
+        let gap = found.gap;
         let near = m.skip(wave, gap);
         let e = self.events(near, wave.top(ocr[0]));
         Distance {
             ticks: gap + 1,
             flags: self.raised(e),
+            looked: found.looked,
         }
     }
 }

@@ -1,2 +1,4 @@
 pub mod Signs
 pub mod Steps
+pub mod Searches
+pub mod Looks

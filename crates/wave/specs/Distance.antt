@@ -1,11 +1,12 @@
 -- Quiet ticks ahead, and the count after them (01, "Count, direction, next event").
-use Prim.Native.Nat.{ℕ, _+_, _-_, min}
+use Prim.Native.Nat.{ℕ, suc, _+_, _-_, min}
 use mathlib.Core.Bool.{Bool, cond, _&&_}
-use mathlib.Core.List.{List}
+use mathlib.Core.List.{List, [], _∷_}
 use lib.ListN.{getD}
 use lib.Dec.{eqb, leb}
 use Rattle.wave.specs.declared.kinds.Wave.{Wave}
 use Rattle.wave.specs.declared.count.Counter.{Counter}
+use Rattle.wave.specs.declared.distance.Search.{Search}
 use Rattle.wave.specs.Count.{falls, topOf, counted}
 
 -- ticks before the count turns or wraps: to 0 falling, else to TOP, or to MAX from above TOP
@@ -28,6 +29,34 @@ gapAt w down count ocr all =
 -- the same, from the counter and the active compares
 unfoldable pub gap : Wave → Counter → List ℕ → ℕ
 gap w c ocr = gapAt w (falls w c) (c .count) ocr (space (falls w c) (c .count) (topOf w (getD ocr 0 0)) (w .max))
+
+-- a gap that the way to a compare behind the count cannot be taken for
+abbrev pub reach : Bool → ℕ → ℕ
+reach down count = cond down count (4294967295 - count)
+
+-- a compare before others, if the timer has it
+abbrev pub having : Bool → ℕ → List ℕ → List ℕ
+having present compare rest = cond present (compare ∷ rest) rest
+
+-- the compares that the timer has, in the order A, B, C (02, 2.4)
+unfoldable pub compares : Wave → List ℕ → List ℕ
+compares w ocr = having (w .a) (getD ocr 0 0) (having (w .b) (getD ocr 1 0) (having (w .c) (getD ocr 2 0) []))
+
+-- how many of them a search looks at: up to the first one tick off, where the count stands at it, blocked or not; else all
+unfoldable pub lookedAt : ℕ → List ℕ → ℕ
+lookedAt count [] = 0
+lookedAt count (compare ∷ rest) = cond (eqb compare count) 1 (suc (lookedAt count rest))
+
+-- the same, from the counter and the active compares
+unfoldable pub looked : Wave → Counter → List ℕ → ℕ
+looked w c ocr = lookedAt (c .count) (compares w ocr)
+
+-- what a search finds
+abbrev pub soughtAt : Wave → Bool → ℕ → List ℕ → ℕ → Search
+soughtAt w down count ocr all = record { gap = gapAt w down count ocr all; looked = lookedAt count (compares w ocr) }
+
+abbrev pub searched : Wave → Counter → List ℕ → Search
+searched w c ocr = record { gap = gap w c ocr; looked = looked w c ocr }
 
 -- the count n quiet ticks on
 unfoldable pub moved : Bool → ℕ → ℕ → ℕ

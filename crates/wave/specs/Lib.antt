@@ -1,3 +1,4 @@
 pub mod Kinds
 pub mod Count
 pub mod Distance
+pub mod Claims

@@ -5,9 +5,15 @@ use crate::count::counted;
 use crate::kinds::Wave;
 ghost use Prim.Native.Nat.{_+_, _<_, _≤_, min};
 ghost use mathlib.Core.Path.{_≡_};
-ghost use mathlib.Core.Bool.{cond};
+ghost use mathlib.Core.Bool.{cond, true};
 ghost use Rattle.wave.specs.Count.{Turns, falls};
-ghost use Rattle.wave.specs.Distance.{space, ahead, gap, moved, skipped};
+ghost use Rattle.wave.specs.Distance.{space, ahead, reach, gap, soughtAt, searched, moved, skipped};
+
+// What a search found: the quiet ticks before the next event's, and how many compares it looked at.
+pub struct Search {
+    pub gap: u32,
+    pub looked: u8,
+}
 
 pub fn smaller(a: u32, b: u32) -> u32
     ensures { λ r. ⌜ r ≡ min a b ⌝ }
@@ -15,27 +21,17 @@ pub fn smaller(a: u32, b: u32) -> u32
     if a <= b { a } else { b }
 }
 
-// Ticks before a compare that lies ahead is met, else all there are.
-pub fn ahead(present: bool, down: bool, count: u32, compare: u32, all: u32) -> u32
-    ensures { λ r. ⌜ r ≡ ahead present down count compare all ⌝ }
+// The gap with one more compare: fewer ticks where it lies ahead and nearer. The way to one that lies behind wraps, and is longer than any gap.
+fn nearer(down: bool, count: u32, compare: u32, gap: u32) -> u32
+    requires { ⌜ gap ≤ reach down count ⌝ }
+    ensures { λ r. ⌜ r ≡ min gap (ahead true down count compare gap) ⌝ }
 {
-    if present {
-        if down {
-            if compare <= count {
-                count - compare
-            } else {
-                all
-            }
-        } else {
-            if count <= compare {
-                compare - count
-            } else {
-                all
-            }
-        }
+    let way = if down {
+        std::num::wrapping_sub_u32(count, compare)
     } else {
-        all
-    }
+        std::num::wrapping_sub_u32(compare, count)
+    };
+    smaller(gap, way)
 }
 
 // The count n ticks on.
@@ -61,21 +57,56 @@ impl Wave {
         }
     }
 
+    // The compares that the timer has, in the order A, B, C: the first that is one tick off ends it.
+    fn seek(self, down: bool, count: u32, all: u32, ocr: [u32; 3]) -> Search
+        requires { ⌜ all ≤ reach down count ⌝ }
+        ensures { λ r. ⌜ r ≡ soughtAt self down count ocr all ⌝ }
+    {
+        let mut gap = all;
+        let mut looked = 0;
+        if self.a {
+            looked += 1;
+            if ocr[0] == count {
+                return Search { gap: 0, looked };
+            }
+            gap = nearer(down, count, ocr[0], gap);
+        }
+        if self.b {
+            looked += 1;
+            if ocr[1] == count {
+                return Search { gap: 0, looked };
+            }
+            gap = nearer(down, count, ocr[1], gap);
+        }
+        if self.c {
+            looked += 1;
+            gap = nearer(down, count, ocr[2], gap);
+        }
+        Search { gap, looked }
+    }
+
+    // The search for the nearest compare. A falling and a rising count have a search each, so that neither asks again which way it goes.
+    pub fn search(self, counter: Counter, ocr: [u32; 3]) -> Search
+        requires { ⌜ counter .count ≤ self .max ⌝ }
+        ensures { λ r. ⌜ r ≡ searched self counter ocr ⌝ }
+    {
+        let count = counter.count;
+        let down = self.falls(counter);
+        let all = self.space(down, count, self.top(ocr[0]));
+        if down {
+            self.seek(true, count, all, ocr)
+        } else {
+            self.seek(false, count, all, ocr)
+        }
+    }
+
     // Quiet ticks before the next event's: the distance is one more.
     pub fn gap(self, counter: Counter, ocr: [u32; 3]) -> u32
         requires { ⌜ counter .count ≤ self .max ⌝ }
         ensures { λ r. ⌜ r ≡ gap self counter ocr ⌝ }
     {
-        let count = counter.count;
-        let down = self.falls(counter);
-        let all = self.space(down, count, self.top(ocr[0]));
-        smaller(
-            smaller(all, ahead(self.a, down, count, ocr[0], all)),
-            smaller(
-                ahead(self.b, down, count, ocr[1], all),
-                ahead(self.c, down, count, ocr[2], all),
-            ),
-        )
+        let s = self.search(counter, ocr);
+        s.gap
     }
 }
 

@@ -90,6 +90,11 @@ impl Timer {
         Some(self.ocr_buf[channel])
     }
 
+    /// Runs `distance` alone.
+    pub fn ticks_ahead(&self) -> u64 {
+        self.distance()
+    }
+
     /// Whether `addr` is the high byte of a 16-bit register.
     pub fn high_byte(&self, addr: u16) -> bool {
         matches!(self.reg16(addr), Some((_, true)))

@@ -128,7 +128,7 @@ impl Figures {
     }
 
     pub fn calls(&self) -> usize {
-        let other = |name: &str| ["state", "config", "preset"].contains(&name);
+        let other = |name: &str| ["state", "distance", "config", "preset"].contains(&name);
         self.lines.iter().filter(|(name, _)| !other(name)).map(|(_, n)| n).sum()
     }
 }
@@ -143,7 +143,7 @@ fn most_in_a_tick(answer: &str) -> usize {
 
 /// Every command of a script that can be accepted.
 fn commands() -> impl Iterator<Item = &'static str> {
-    let others = ["config", "preset", "state", "pin"];
+    let others = ["config", "preset", "state", "distance", "pin"];
     let scheduler = ["sched at", "sched cancel", "sched is", "sched pop", "sched clear"];
     CALLS.iter().map(|call| call.0).chain(others).chain(scheduler)
 }

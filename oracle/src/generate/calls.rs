@@ -39,7 +39,7 @@ impl Generator {
         }
     }
 
-    /// Ends the words with a cycle and an area, and shows the state after the call.
+    /// Ends the words with a cycle and an area, and shows state and distance after the call.
     fn call(&mut self, words: &str, reach: Reach) {
         let (cycle, area) = match self.play.side.view() {
             Some(view) => (cycles::cycle(&mut self.rng, &view, reach), cycles::area(&mut self.rng)),
@@ -47,6 +47,7 @@ impl Generator {
         };
         self.say(format!("{words} {cycle} {area}"));
         self.say("state".into());
+        self.say("distance".into());
     }
 
     /// A call where there is no timer yet.

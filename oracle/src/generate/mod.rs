@@ -24,10 +24,10 @@ impl Generator {
         self.play.side.view()
     }
 
-    /// Adds a line and lets the judge work it. `state` and configurations are not calls.
+    /// Adds a line and lets the judge work it. `state`, `distance` and configurations are not calls.
     fn say(&mut self, line: String) {
         self.play.answer(line.as_bytes());
-        if !["state", "config", "preset"].iter().any(|w| line.starts_with(w)) {
+        if !["state", "distance", "config", "preset"].iter().any(|w| line.starts_with(w)) {
             self.calls += 1;
         }
         self.lines.push(line);
@@ -53,7 +53,7 @@ impl Generator {
     }
 }
 
-/// A script of at least so many calls, with `state` after every one on the timer.
+/// A script of at least so many calls, with `state` and `distance` after every one on the timer.
 pub fn script(seed: u64, calls: usize) -> Vec<String> {
     let play = Play::new(Judge::new(Follow::Sheet));
     let mut generator = Generator { rng: Rng::new(seed), play, lines: Vec::new(), calls: 0 };

@@ -7,7 +7,7 @@ use mcs::scheduler::{EventKey, Scheduler};
 use mcs::timer::{Timer, EVENT};
 
 use super::{advance, records, setup, Follow};
-use crate::script::{self, Call, Config, State};
+use crate::script::{self, Call, Config, Distance, State};
 
 /// The timer is the only peripheral.
 const ME: u8 = 0;
@@ -129,9 +129,18 @@ impl Bench {
         [1, 2, 3, 4, 5].map(|vector| self.cpu.lines[vector])
     }
 
+    /// What the Rust's `distance` computes from the state. It says no flags, and looks at every channel: the compares that stop a search
+    /// are told here.
+    pub fn distance(&self, config: &Config, flags: u8) -> Distance {
+        let t = self.timer.inside();
+        let compares: Vec<u32> = (0..3).filter(|&ch| present(config)[ch]).map(|ch| t.ocr[ch]).collect();
+        let first = compares.iter().position(|&o| o == t.tcnt);
+        Distance { ticks: self.timer.ticks_ahead(), flags, looked: first.map_or(compares.len(), |i| i + 1) as u8 }
+    }
+
     pub fn state(&self, config: &Config, latest: u64) -> State {
         let t = self.timer.inside();
-        let present = [config.ocra.is_some(), config.ocrb.is_some(), config.c.is_some()];
+        let present = present(config);
         let shown = |values: [u32; 3]| [0, 1, 2].map(|ch| present[ch].then_some(values[ch]));
         let drive = |pin: u8| (self.sys.pins[pin as usize].ov_enable, self.sys.pins[pin as usize].ov_value);
         State {
@@ -159,4 +168,9 @@ impl Bench {
             odometer: None,
         }
     }
+}
+
+/// The compares that the timer has.
+fn present(config: &Config) -> [bool; 3] {
+    [config.ocra.is_some(), config.ocrb.is_some(), config.c.is_some()]
 }

@@ -17,7 +17,7 @@ use mcs::scheduler::Scheduler;
 use mcs::timer::Inside;
 
 use crate::plain::Plain;
-use crate::script::{Answer, Call, Config, PinLine, Sched, Side, State};
+use crate::script::{Answer, Call, Config, Distance, PinLine, Sched, Side, State};
 use bench::Bench;
 
 /// Whose word counts where 01 lets the sheet decide against the Rust.
@@ -164,6 +164,11 @@ impl Side for Judge {
     fn state(&self) -> Option<State> {
         let odometer = self.plain.as_ref().and_then(Plain::state).and_then(|state| state.odometer);
         self.held.as_ref().map(|held| State { odometer, ..held.state() })
+    }
+
+    fn distance(&self) -> Option<Distance> {
+        let flags = self.plain.as_ref().and_then(Plain::distance).map_or(0, |distance| distance.flags);
+        self.held.as_ref().map(|held| held.bench.distance(&held.config, flags))
     }
 
     fn pin(&self, pin: &PinLine) -> Answer {

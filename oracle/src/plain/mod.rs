@@ -19,7 +19,7 @@ mod timer;
 
 use std::rc::Rc;
 
-use crate::script::{Answer, Call, Config, PinLine, Sched, Side, State};
+use crate::script::{Answer, Call, Config, Distance, PinLine, Sched, Side, State};
 use bends::Bend;
 use log::Log;
 use scheduler::Scheduler;
@@ -107,6 +107,10 @@ impl Side for Plain {
 
     fn state(&self) -> Option<State> {
         self.timer.as_ref().map(Timer::state)
+    }
+
+    fn distance(&self) -> Option<Distance> {
+        self.timer.as_ref().map(Timer::distance)
     }
 
     fn pin(&self, pin: &PinLine) -> Answer {

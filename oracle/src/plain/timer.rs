@@ -6,7 +6,7 @@ use super::bends::Bend;
 use super::log::Log;
 use super::setup::Setup;
 use super::tables::{self, Clock, Kind, Top};
-use crate::script::{ClockTable, Event, State};
+use crate::script::{ClockTable, Distance, Event, State};
 
 #[derive(Clone)]
 pub struct Timer {
@@ -143,16 +143,20 @@ impl Timer {
         Some(self.next_tick(divisor) + self.quiet_ticks() as u64 * divisor)
     }
 
-    /// That event with the flags that its tick raises: the tick is worked on a copy, whose count the quiet ticks have stepped.
+    /// That event with the flags that its tick raises.
     pub fn announced(&self) -> Option<Event> {
-        let cycle = self.next_event()?;
+        self.next_event().map(|cycle| Event { cycle, flags: self.flags_ahead() })
+    }
+
+    /// The flags of the next event's tick, which is worked on a copy whose count the quiet ticks have stepped.
+    fn flags_ahead(&self) -> u8 {
         let mut copy = self.clone();
         let quiet = if self.bent(Bend::FlagsAsItStands) { 0 } else { self.quiet_ticks() };
         copy.blocked &= quiet == 0 && !self.bent(Bend::BlockedMatchAnnounced);
         copy.count = if self.falls() { self.count - quiet } else { self.count + quiet };
         copy.tifr = 0;
-        copy.tick(cycle, &mut Log::default());
-        Some(Event { cycle, flags: copy.tifr })
+        copy.tick(0, &mut Log::default());
+        copy.tifr
     }
 
     fn falls(&self) -> bool {
@@ -171,6 +175,19 @@ impl Timer {
         places.extend([self.top(), self.max()]);
         let round = self.max() + 1;
         places.into_iter().map(|p| (p + round - self.count) % round).min().unwrap_or(0)
+    }
+
+    /// The distance to the next event's tick, and how many compares tell it: up to the first at the count, else all there are.
+    pub fn distance(&self) -> Distance {
+        let present = (0..3).filter(|&ch| self.setup.channels[ch].present);
+        let mut looked = 0;
+        for ch in present {
+            looked += 1;
+            if self.active[ch] == self.count {
+                break;
+            }
+        }
+        Distance { ticks: self.quiet_ticks() as u64 + 1, flags: self.flags_ahead(), looked }
     }
 
     /// The flag bits of overflow, A, B, capture and C.

@@ -162,6 +162,20 @@ impl fmt::Display for State {
     }
 }
 
+/// What a `distance` line shows, of the timer as it stands.
+#[derive(Clone, Copy, Debug, PartialEq, Eq)]
+pub struct Distance {
+    pub ticks: u64,
+    pub flags: u8,
+    pub looked: u8,
+}
+
+impl fmt::Display for Distance {
+    fn fmt(&self, f: &mut fmt::Formatter) -> fmt::Result {
+        write!(f, "distance ticks={} flags={:02x} looked={}", self.ticks, self.flags, self.looked)
+    }
+}
+
 fn three<T>(values: [Option<T>; 3], show: impl Fn(T) -> String) -> String {
     values.map(|v| v.map_or("-".into(), &show)).join(",")
 }

@@ -41,6 +41,7 @@ pub enum Command {
     Config(Box<Config>),
     Call { call: Call, cycle: u64, area: usize },
     State,
+    Distance,
     Pin(PinLine),
     Sched(Sched),
 }
@@ -75,6 +76,7 @@ impl Command {
             "config" => Config::read(rest).map(|c| Self::Config(Box::new(c))),
             "preset" => Config::read_preset(rest).map(|c| Self::Config(Box::new(c))),
             "state" => exactly(rest, 0).map(|()| Self::State),
+            "distance" => exactly(rest, 0).map(|()| Self::Distance),
             "pin" => PinLine::read(rest).map(Self::Pin),
             "sched" => read_sched(rest).map(Self::Sched),
             name => {

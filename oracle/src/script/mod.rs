@@ -9,7 +9,7 @@ pub mod play;
 pub mod presets;
 pub mod words;
 
-pub use answer::{Answer, Event, State};
+pub use answer::{Answer, Distance, Event, State};
 pub use command::{Call, Command, Sched};
 pub use config::{ClockTable, CompareC, Config, Layout};
 pub use pin::{Ext, PinLine};

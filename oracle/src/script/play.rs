@@ -2,7 +2,7 @@
 
 use std::io::{self, BufRead, Write};
 
-use super::answer::{Answer, State};
+use super::answer::{Answer, Distance, State};
 use super::command::{Call, Command, Sched};
 use super::config::Config;
 use super::pin::PinLine;
@@ -19,6 +19,7 @@ pub trait Side {
     fn configure(&mut self, config: &Config) -> Answer;
     fn call(&mut self, call: Call, cycle: u64, area: &mut [u8]) -> Answer;
     fn state(&self) -> Option<State>;
+    fn distance(&self) -> Option<Distance>;
     fn pin(&self, pin: &PinLine) -> Answer;
     fn sched(&mut self, sched: Sched) -> Answer;
 }
@@ -48,6 +49,7 @@ impl<S: Side> Play<S> {
             Command::Config(config) => self.side.configure(config).line(&[]),
             Command::Call { call, cycle, area } => self.call(*call, *cycle, *area),
             Command::State => self.side.state().map_or(Answer::NoTimer.line(&[]), |s| s.to_string()),
+            Command::Distance => self.side.distance().map_or(Answer::NoTimer.line(&[]), |d| d.to_string()),
             Command::Pin(pin) => self.side.pin(pin).line(&[]),
             Command::Sched(sched) => self.side.sched(*sched).line(&[]),
         }
