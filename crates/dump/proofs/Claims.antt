@@ -7,12 +7,23 @@ use mathlib.Core.Path.{_≡_, refl, sym, ap, _∙_}
 use mathlib.Core.Bool.{Bool, true, false, cond, _&&_}
 use mathlib.Core.List.{List, [], _∷_, _++_, append-assoc, append-nil}
 use lib.Dec.{eqb, ltb}
-use lib.ListN.{length}
+use lib.ListN.{length, getD}
 use lib.Seq.{append-snoc}
 use borrow.Author.Tests.{lt-ltb, le-ltb, eqb-true, ne-eqb}
 use Rattle.records.specs.Records.{recordAt, kindIn, cycleIn, bodyIn, numberOf}
-use Rattle.dump.specs.Dump.{Change, stateOf, changeIn, changesIn, changesOf, codes, text, digits, decimal, varLine, has, varLines, noCycle, timeLine, valueLine, changeLines, header, dumpOf, formed, before, refusedAt, firstRefusal, refusalOf}
-use Rattle.dump.specs.Claims.{linesIn, numberIn, readLines, readBack, ReadsBack, Example}
+use Rattle.pieces.specs.Pieces.{start, wholes, wholesIn, partAfter, Bytes, joined}
+use Rattle.pieces.proofs.Cuts.{part-append, wholes-append}
+use Rattle.pieces.proofs.Claims.{of-a-log}
+use Rattle.verdict.specs.Changes.{Change, stateOf, changeIn, changesIn, changesOf, changes, has}
+use Rattle.verdict.specs.Refusal.{formed, before, refusedAt, firstRefusal, refusalOf}
+use Rattle.verdict.specs.Check.{fresh, pinsIn}
+use Rattle.verdict.specs.Claims.{checkedAll}
+use Rattle.verdict.proofs.Claims.{changes-append, changes-in, by-pieces}
+use Rattle.dump.specs.declared.writer.Writer.{Writer}
+use Rattle.dump.specs.Dump.{codes, text, digits, decimal, varLine, varLines, noCycle, timeLine, valueLine, changeLines, lastCycle, header, dumpOf}
+use Rattle.dump.specs.Pieces.{varsOf, headerOf, begun, writtenBy, after}
+use Rattle.dump.specs.Claims.{writtenAll, passes, ByPieces, linesIn, numberIn, readLines, readBack, ReadsBack, Example}
+use Rattle.dump.proofs.Lines.{lines-append, last-append}
 
 -- ---- lines
 
@@ -179,13 +190,59 @@ changes-read time last (c ∷ cs) p h =
         ∙ value-read (62500 * c .cycle) c (changeLines (c .cycle) cs) (p .1) (omega arith)
         ∙ ap (λ (l : List Change). c ∷ l) (rest (62500 * c .cycle) refl))
 
+-- ---- any cut
+
+written-append : (w : Writer) (a b : List ℕ) → writtenBy w (a ++ b) ≡ writtenBy w a ++ writtenBy (after w a) b
+unfolding writtenBy after
+written-append w a b =
+    ap (λ (x : List _). changeLines (w .last) (changes x)) (wholes-append (w .part) a b)
+    ∙ ap (changeLines (w .last)) (changes-append (wholes (w .part) a) (wholes (partAfter (w .part) a) b))
+    ∙ lines-append (w .last) (changes (wholes (w .part) a)) (changes (wholes (partAfter (w .part) a) b))
+
+after-append : (w : Writer) (a b : List ℕ) → after w (a ++ b) ≡ after (after w a) b
+unfolding after
+after-append w a b =
+    rw (part-append (w .part) a b, wholes-append (w .part) a b, changes-append (wholes (w .part) a) (wholes (partAfter (w .part) a) b), last-append (w .last) (changes (wholes (w .part) a)) (changes (wholes (partAfter (w .part) a) b)))
+
+nothing-written : (w : Writer) → writtenBy w [] ≡ []
+unfolding writtenBy wholes changes changeLines
+nothing-written w = refl
+
+written-all : (w : Writer) (pieces : List (List ℕ)) → writtenAll w pieces ≡ writtenBy w (joined pieces)
+unfolding writtenAll joined
+written-all w [] = sym (nothing-written w)
+written-all w (piece ∷ pieces) = ap (λ (x : List ℕ). writtenBy w piece ++ x) (written-all (after w piece) pieces) ∙ sym (written-append w piece (joined pieces))
+
+pub written-log : (log : List ℕ) → Bytes log → writtenBy begun log ≡ changeLines noCycle (changesOf log)
+unfolding writtenBy
+written-log log k = ap (λ (x : List _). changeLines noCycle (changes x)) (of-a-log log k .0) ∙ ap (changeLines noCycle) (changes-in log (length log / 10))
+
+-- the header of pins that are those of the changes
+vars-are : (pins : List Bool) (cs : List Change) (n : ℕ) → ((pin : ℕ) → pin < n → getD pins pin false ≡ has pin cs) → varsOf pins n ≡ varLines cs n
+unfolding varsOf varLines
+vars-are pins cs zero h = refl
+vars-are pins cs (suc n) h = rw (vars-are pins cs n (λ pin q. h pin (omega arith)), h n (omega arith))
+
+pub header-is : (pins : List Bool) (cs : List Change) → ((pin : ℕ) → pin < 256 → getD pins pin false ≡ has pin cs) → headerOf pins ≡ header cs
+unfolding headerOf header
+header-is pins cs h = rw (vars-are pins cs 256 h)
+
 -- ---- the claims
 
-pub reads-back : ReadsBack
+pub dump-by-pieces : ByPieces
+unfolding passes dumpOf
+dump-by-pieces first second e k =
+    rw (header-is (pinsIn (checkedAll fresh first)) (changesOf (joined first)) (by-pieces first k .pins))
+    (ap (λ (x : List ℕ). header (changesOf (joined first)) ++ x) (written-all begun second ∙ ap (writtenBy begun) (sym e) ∙ written-log (joined first) k))
+
+dump-read : (log : List ℕ) → readBack (dumpOf log) ≡ changesOf log
 unfolding readBack dumpOf
-reads-back log =
+dump-read log =
     header-read 0 (changesOf log) (changeLines noCycle (changesOf log))
     ∙ changes-read 0 noCycle (changesOf log) (proper-changes log (length log / 10)) (λ q. absurd (omega arith))
+
+pub reads-back : ReadsBack
+reads-back first second e k = ap readBack (dump-by-pieces first second e k) ∙ dump-read (joined first)
 
 pub example : Example
 unfolding dumpOf header codes varLine varLines has timeLine valueLine changeLines changesIn changeIn recordAt stateOf digits decimal kindIn cycleIn bodyIn numberOf formed before refusedAt firstRefusal refusalOf

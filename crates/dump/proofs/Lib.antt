@@ -1,4 +1,5 @@
-pub mod Bytes
-pub mod Text
-pub mod Changes
+pub mod Writing
+pub mod Lines
+pub mod Turns
 pub mod Claims
+pub mod Answering

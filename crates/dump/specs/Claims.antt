@@ -1,11 +1,31 @@
--- What is proved of the dump beside the functions: the changes can be read back from its bytes, and the example of 02 is met.
+-- What is proved of the dump beside the functions: over any cut it is the dump of the whole log, the changes can be read back from its bytes, and the example of 02 is met.
 use Prim.Native.Nat.{ℕ, _+_, _*_, _-_, _/_}
 use mathlib.Core.Path.{_≡_}
 use mathlib.Core.Bool.{cond}
 use mathlib.Core.List.{List, [], _∷_, _++_}
 use lib.Dec.{eqb}
 use lib.ListN.{drop}
-use Rattle.dump.specs.Dump.{Change, changesOf, dumpOf, refusalOf, text}
+use Rattle.pieces.specs.Pieces.{Bytes, joined}
+use Rattle.verdict.specs.Changes.{Change, changesOf}
+use Rattle.verdict.specs.Refusal.{refusalOf}
+use Rattle.verdict.specs.Check.{fresh, pinsIn}
+use Rattle.verdict.specs.Claims.{checkedAll}
+use Rattle.dump.specs.declared.writer.Writer.{Writer}
+use Rattle.dump.specs.Dump.{text, dumpOf}
+use Rattle.dump.specs.Pieces.{headerOf, begun, writtenBy, after}
+
+-- the lines of pieces one after the other
+unfoldable pub writtenAll : Writer → List (List ℕ) → List ℕ
+writtenAll w [] = []
+writtenAll w (piece ∷ pieces) = writtenBy w piece ++ writtenAll (after w piece) pieces
+
+-- what the two passes write: the header of the pieces that the first reads, and the lines of those that the second reads (02, 2.10)
+unfoldable pub passes : List (List ℕ) → List (List ℕ) → List ℕ
+passes first second = headerOf (pinsIn (checkedAll fresh first)) ++ writtenAll begun second
+
+-- however the log is cut in each of them, that is its dump
+abbrev pub ByPieces : Type 0
+ByPieces = (first second : List (List ℕ)) → joined first ≡ joined second → Bytes (joined first) → passes first second ≡ dumpOf (joined first)
 
 -- the lines of a text, each ended by a line feed, after the bytes of one that has begun
 unfoldable pub linesIn : List ℕ → List ℕ → List (List ℕ)
@@ -30,9 +50,9 @@ readLines time ((b ∷ bs) ∷ ls) =
 unfoldable pub readBack : List ℕ → List Change
 readBack bytes = readLines 0 (linesIn [] bytes)
 
--- reading the changes back yields, in order, each pin record's pin, cycle and 0, 1 or z (02, 2.3)
+-- reading the changes back yields, in order, each pin record's pin, cycle and 0, 1 or z (02, 2.3), of what the two passes write (02, 2.10)
 abbrev pub ReadsBack : Type 0
-ReadsBack = (log : List ℕ) → readBack (dumpOf log) ≡ changesOf log
+ReadsBack = (first second : List (List ℕ)) → joined first ≡ joined second → Bytes (joined first) → readBack (passes first second) ≡ changesOf (joined first)
 
 -- the example of 02, 2.3: pin 5 high at cycle 2
 abbrev pub exampleLog : List ℕ

@@ -1,70 +1,14 @@
--- A record log as a value change dump (02, 2.3): the refusal, and the text byte by byte.
-use Prim.Native.Nat.{ℕ, zero, suc, _+_, _*_, _-_, _/_, _%_, _^_}
+-- A record log as a value change dump (02, 2.3): the text byte by byte.
+use Prim.Native.Nat.{ℕ, zero, suc, _+_, _*_, _/_, _%_, _^_}
 use Prim.Native.String.{String, len, charAt}
 use Prim.Native.Char.{code}
 use mathlib.Core.Path.{_≡_}
-use mathlib.Core.Bool.{Bool, false, cond, _&&_, _||_}
+use mathlib.Core.Bool.{cond}
 use mathlib.Core.List.{List, [], _∷_, _++_}
-use lib.Dec.{eqb, ltb, leb}
+use lib.Dec.{eqb, ltb}
 use lib.ListN.{length}
 use lib.Seq.{sets}
-use Rattle.records.specs.Records.{recordAt, kindIn, cycleIn, bodyIn}
-
--- ---- the log
-
--- what a pin record says: its pin, its cycle, and the character 0, 1 or z
-pub record Change : Type 0 where
-  pub pin : ℕ
-  pub cycle : ℕ
-  pub state : ℕ
-
--- enable 1 writes the value, enable 0 writes z (02, 2.3), as ASCII
-unfoldable pub stateOf : ℕ → ℕ
-stateOf body = cond (eqb (body / 128 % 2) 1) (48 + body / 64 % 2) 122
-
--- the change in ten bytes: one in a pin record; flag and trigger records are passed over (02, 2.3)
-unfoldable pub changeIn : List ℕ → List Change
-changeIn r = cond (eqb (kindIn r) 0) (record { pin = bodyIn r / 256; cycle = cycleIn r; state = stateOf (bodyIn r) } ∷ []) []
-
--- the changes in a log's first n records, in order
-unfoldable pub changesIn : List ℕ → ℕ → List Change
-changesIn log zero = []
-changesIn log (suc n) = changesIn log n ++ changeIn (recordAt log n)
-
--- the changes in a log
-abbrev pub changesOf : List ℕ → List Change
-changesOf log = changesIn log (length log / 10)
-
--- ---- the refusal (02, 2.3)
-
--- a kind that is used, and filler bits that are zero: six in a pin record, three in a flag record, four in a trigger record
-unfoldable pub formed : ℕ → ℕ → Bool
-formed kind body =
-    cond (eqb kind 0) (eqb (body % 64) 0)
-    (cond (eqb kind 1) (eqb (body % 8) 0)
-    (cond (eqb kind 2) (eqb (body % 16) 0) false))
-
--- the cycle of the record before the nth, 0 where there is none
-unfoldable pub before : List ℕ → ℕ → ℕ
-before log n = cond (eqb n 0) 0 (cycleIn (recordAt log (n - 1)))
-
--- the nth record by itself: 13 its form, 14 a cycle below the one before it, 15 a cycle over 2^48 - 1, in that order
-unfoldable pub refusedAt : List ℕ → ℕ → ℕ
-refusedAt log n =
-    cond (formed (kindIn (recordAt log n)) (bodyIn (recordAt log n)))
-    (cond (ltb (cycleIn (recordAt log n)) (before log n)) 14
-    (cond (ltb (cycleIn (recordAt log n)) (2 ^ 48)) 0 15)) 13
-
--- the first number among a log's first n records, 0 where there is none
-unfoldable pub firstRefusal : List ℕ → ℕ → ℕ
-firstRefusal log zero = 0
-firstRefusal log (suc n) = cond (eqb (firstRefusal log n) 0) (refusedAt log n) (firstRefusal log n)
-
--- the length comes first: a multiple of ten, at most 60,000
-unfoldable pub refusalOf : List ℕ → ℕ
-refusalOf log = cond (eqb (length log % 10) 0 && leb (length log) 60000) (firstRefusal log (length log / 10)) 13
-
--- ---- the text (02, 2.3)
+use Rattle.verdict.specs.Changes.{Change, changesOf, has}
 
 -- the ASCII codes of a text's first n characters
 unfoldable pub codes : String → ℕ → List ℕ
@@ -84,14 +28,13 @@ digits (suc k) n = cond (ltb n 10) [] (digits k (n / 10)) ++ (48 + n % 10) ∷ [
 unfoldable pub decimal : ℕ → List ℕ
 decimal n = digits (suc n) n
 
+-- the last five decimal digits of a number, with leading zeros
+abbrev pub five : ℕ → List ℕ
+five n = (48 + n / 10000 % 10) ∷ (48 + n / 1000 % 10) ∷ (48 + n / 100 % 10) ∷ (48 + n / 10 % 10) ∷ (48 + n % 10) ∷ []
+
 -- the line that declares a pin's wire
 unfoldable pub varLine : ℕ → List ℕ
 varLine pin = text "$var wire 1 p" ++ decimal pin ++ text " p" ++ decimal pin ++ text " $end\n"
-
--- is a pin among the changes
-unfoldable pub has : ℕ → List Change → Bool
-has pin [] = false
-has pin (c ∷ cs) = eqb (c .pin) pin || has pin cs
 
 -- a line for each pin below n among the changes, by rising number
 unfoldable pub varLines : List Change → ℕ → List ℕ

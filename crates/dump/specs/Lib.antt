@@ -1,2 +1,4 @@
 pub mod Dump
+pub mod Pieces
+pub mod Answers
 pub mod Claims

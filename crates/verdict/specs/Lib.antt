@@ -1,0 +1,4 @@
+pub mod Changes
+pub mod Refusal
+pub mod Check
+pub mod Claims
