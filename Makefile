@@ -58,6 +58,7 @@ oracle:
 # The bench program against the Rust, when the oracle is built.
 against-bench: $(BENCH)
 	$(ORACLE)/compare --program $(BENCH) $(CALLS) $(SEED)
+	$(ORACLE)/compare --watchdog $(BENCH) $(CALLS) $(SEED)
 
 library:
 	rt staticlib shell

@@ -1,4 +1,5 @@
-/* What crates/shell exports, with the timer of crates/counter and its configuration of crates/config, for C and C++ on x86-64. */
+/* What crates/shell exports, with the timer of crates/counter, its configuration of crates/config, and the watchdog of crates/watchdog, for C
+ * and C++ on x86-64. */
 #ifndef PADDLEMAUVE_H
 #define PADDLEMAUVE_H
 
@@ -46,6 +47,7 @@ enum pm_refusal {
     PM_EVENT_DUE,            /* the next event lies at or before the cycle: advance to the cycle first */
     PM_ASLEEP,               /* halted asleep: wake the timer first */
     PM_AREA_TOO_SMALL,       /* lend PM_AREA bytes */
+    PM_PERIOD = 17,          /* a watchdog's prescaler is 0 to 9 */
     PM_NO_CALL = 255         /* the kind is no enum pm_kind */
 };
 
@@ -77,28 +79,53 @@ struct pm_begun paddlemauve_start(struct pm_config config);
 struct pm_distance paddlemauve_distance(struct pm_timer timer);
 struct pm_reply paddlemauve_call(struct pm_timer *timer, struct pm_asked asked, struct pm_area area);
 
+/* A watchdog. It comes from paddlemauve_watchdog and is replaced by what each call leaves. */
+struct pm_watchdog {
+    struct {
+        uint32_t count;
+        struct { bool wdif, wdie, wde; uint8_t wdp; } control;
+        struct { bool wdce; uint64_t since; } window;
+    } moving;
+    uint64_t sync, latest;
+};
+
+/* number: 0, or an enum pm_refusal; what: an enum pm_what, with its value. */
+struct pm_report { uint8_t number, what; uint64_t value, written; };
+
+struct pm_watched { struct pm_watchdog watchdog; struct pm_report report; };
+
+struct pm_watchdog paddlemauve_watchdog(void);
+struct pm_watched paddlemauve_watchdog_advance(struct pm_watchdog w, uint64_t cycle, struct pm_area area);
+struct pm_watched paddlemauve_watchdog_next(struct pm_watchdog w, uint64_t cycle);
+struct pm_watched paddlemauve_watchdog_wdr(struct pm_watchdog w, uint64_t cycle);
+struct pm_watched paddlemauve_watchdog_serve(struct pm_watchdog w, uint64_t cycle);
+struct pm_watched paddlemauve_watchdog_read(struct pm_watchdog w, uint64_t cycle);
+struct pm_watched paddlemauve_watchdog_write(struct pm_watchdog w, uint8_t value, uint64_t cycle);
+
 /* The bytes of a record, and those of an area that holds the records of any call's one event. */
 enum { PM_RECORD = 10, PM_AREA = 110 };
 
-enum pm_record_kind { PM_PIN, PM_FLAGS, PM_TRIGGER };
+enum pm_record_kind { PM_PIN, PM_FLAGS, PM_TRIGGER, PM_WATCHDOG };
 
-/* The request lines of a flag record, and the triggers. */
+/* The request lines of a flag record, the triggers, and the time-outs of a watchdog. */
 enum pm_line { PM_LINE_C = 1, PM_LINE_CAPTURE = 2, PM_LINE_B = 4, PM_LINE_A = 8, PM_LINE_OVERFLOW = 16 };
 enum pm_trigger { PM_COMPARE_A = 1, PM_COMPARE_B, PM_OVERFLOW, PM_CAPTURE };
+enum pm_timeout { PM_INTERRUPT = 1, PM_RESTART };
 
 /* A record. kind: an enum pm_record_kind, which says which of the fields behind cycle count: pin, enable and value; flags (TIFR bits raised) and
- * lines (those that are up, of enum pm_line); or trigger (an enum pm_trigger) and id, the timer's. The others are 0. */
+ * lines (those that are up, of enum pm_line); trigger (an enum pm_trigger) and id, the timer's; or timeout (an enum pm_timeout). The others are 0. */
 struct pm_record {
     uint8_t kind; uint64_t cycle;
     uint8_t pin; bool enable, value;
     uint8_t flags, lines;
     uint8_t trigger, id;
+    uint8_t timeout;
 };
 
 /* The record of PM_RECORD bytes, as a call wrote them. */
 static inline struct pm_record pm_read_record(const uint8_t *bytes)
 {
-    struct pm_record r = {0, 0, 0, false, false, 0, 0, 0, 0};
+    struct pm_record r = {0, 0, 0, false, false, 0, 0, 0, 0, 0};
     int i;
     for (i = 0; i < 8; i++) r.cycle = r.cycle << 8 | bytes[i];
     r.kind = (uint8_t)(r.cycle >> 62);
@@ -113,6 +140,8 @@ static inline struct pm_record pm_read_record(const uint8_t *bytes)
     } else if (r.kind == PM_TRIGGER) {
         r.trigger = bytes[8] >> 4;
         r.id = (uint8_t)(bytes[8] << 4 | bytes[9] >> 4);
+    } else {
+        r.timeout = bytes[9];
     }
     return r;
 }

@@ -1,9 +1,11 @@
-/* T1 from C: Timer0 at /1, its next event, and the three records of an advance to it. */
+/* T1 from C: Timer0 at /1, its next event, and the three records of an advance to it. Then a watchdog's reset. */
 #include <assert.h>
 #include <stdalign.h>
 #include <stdio.h>
 
 #include "paddlemauve_m328p.h"
+
+static const uint8_t reset[10] = {0xc0, 0, 0, 0, 0, 3, 0xe8, 0, 0, 2};
 
 int main(void) {
     struct pm_shape shape = paddlemauve_shape();
@@ -33,6 +35,13 @@ int main(void) {
     struct pm_timer was = begun.timer;
     assert(paddlemauve_call(&begun.timer, (struct pm_asked){.kind = 18, .cycle = 1}, area).number == PM_NO_CALL);
     assert(begun.timer.counter.count == 1 && begun.timer.counter.odometer == 1 && begun.timer.flags.tifr == 6 && was.clock.latest == begun.timer.clock.latest);
+
+    struct pm_watched w = paddlemauve_watchdog_write(paddlemauve_watchdog(), 0x08, 0);
+    assert(w.report.number == 0 && w.watchdog.moving.control.wde);
+    w = paddlemauve_watchdog_advance(w.watchdog, 256000, area);
+    assert(w.report.number == 0 && w.report.written == sizeof reset && memcmp(bytes, reset, sizeof reset) == 0);
+    w = paddlemauve_watchdog_next(w.watchdog, 256000);
+    assert(w.report.what == PM_EVENT_AT && w.report.value == 512000);
 
     puts("T1 from C");
     return 0;

@@ -184,6 +184,8 @@ impl Timer {
                     cx.cpu.data[self.c.tifr as usize] |= raised;
                     update_irqs(cx, self.c.tifr, self.c.timsk, &self.irq_map);
                 }
+                // No record of a timer's.
+                Event::Watchdog { .. } => (),
                 Event::Trigger { trigger, .. } => {
                     let trigger = match trigger {
                         1 => Trigger::TimerCompA(id),

@@ -5,3 +5,4 @@ pub mod generate;
 pub mod judge;
 pub mod plain;
 pub mod script;
+pub mod watchdog;

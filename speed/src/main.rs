@@ -1,10 +1,12 @@
 //! `speed`: the timer beside the Rust, one driver and one build for both. Nanoseconds by the clock; instructions by
-//! callgrind, as the difference of two runs: `speed run ROW SIDE STEPS` and `speed grow SELECT POWER STEPS`.
+//! callgrind, as the difference of two runs: `speed run ROW SIDE STEPS`, `speed grow SELECT POWER STEPS` and
+//! `speed watch P TIMEOUTS STEPS`. `speed watchdog` measures the watchdog alone.
 
 mod callgrind;
 mod growth;
 mod sides;
 mod table;
+mod watchdogs;
 mod work;
 
 use sides::{Ours, Side, Theirs};
@@ -16,11 +18,16 @@ fn main() {
         [] => {
             table::print();
             growth::print();
+            watchdogs::print();
         }
         ["run", row, side, steps] => println!("{}", row_of(number(row) as usize, side, number(steps))),
         ["grow", select, power, steps] => {
             println!("{}", growth::run(number(select) as u8, number(power) as u32, number(steps)));
         }
+        ["watch", p, timeouts, steps] => {
+            println!("{}", watchdogs::run(number(p) as u8, number(timeouts), number(steps)));
+        }
+        ["watchdog"] => watchdogs::print(),
         _ => usage(),
     }
 }
@@ -39,6 +46,10 @@ fn number(word: &str) -> u64 {
 }
 
 fn usage() -> ! {
-    eprintln!("usage: speed | speed run ROW {}|{} STEPS | speed grow SELECT POWER STEPS", Ours::NAME, Theirs::NAME);
+    eprintln!(
+        "usage: speed | speed run ROW {}|{} STEPS | speed grow SELECT POWER STEPS | speed watchdog",
+        Ours::NAME,
+        Theirs::NAME
+    );
     std::process::exit(2)
 }

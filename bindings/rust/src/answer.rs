@@ -27,11 +27,11 @@ pub enum Call {
     Reset,
 }
 
-/// Why a call was turned away. Nothing has changed then: neither the timer nor a byte of the area.
+/// Why a call was turned away. Nothing has changed then: neither the timer or watchdog nor a byte of the area.
 #[derive(Clone, Copy, Debug, PartialEq, Eq)]
 pub enum Refusal {
     /// 1: the configuration breaks a rule.
-    Configuration,
+    Configuration = 1,
     /// 2: the cycle is over 2^62 − 1.
     CycleTooLarge,
     /// 3: the cycle is below the latest accepted.
@@ -46,6 +46,8 @@ pub enum Refusal {
     Asleep,
     /// 8: the records exceed the area.
     AreaTooSmall,
+    /// 17: a watchdog's prescaler from 10 to 15.
+    Period = 17,
 }
 
 /// The next event: its cycle, and the flags, as TIFR bits, that its tick will raise.
@@ -80,7 +82,7 @@ pub struct Outcome {
 impl Refusal {
     /// The number in the table of refusals.
     pub fn number(self) -> u8 {
-        self as u8 + 1
+        self as u8
     }
 
     /// What to do.
@@ -94,6 +96,7 @@ impl Refusal {
             Self::EventDue => "advance to the cycle first",
             Self::Asleep => "wake the timer first",
             Self::AreaTooSmall => "lend a larger area: 110 bytes hold any call's records",
+            Self::Period => "give a prescaler of 0 to 9",
         }
     }
 
@@ -107,7 +110,8 @@ impl Refusal {
             6 => Self::EventDue,
             7 => Self::Asleep,
             8 => Self::AreaTooSmall,
-            _ => unreachable!("a timer's refusals are 1 to 8, this is {number}"),
+            17 => Self::Period,
+            _ => unreachable!("refusals are 1 to 8 and 17, this is {number}"),
         }
     }
 }

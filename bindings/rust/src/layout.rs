@@ -4,10 +4,11 @@
 use std::mem::{align_of, size_of};
 use std::sync::Once;
 
-use crate::answer::{Answer, Call, Outcome};
+use crate::answer::{Answer, Call, Outcome, Refusal};
 use crate::config::Config;
 use crate::raw::{self, Shape};
 use crate::timer::{State, Timer};
+use crate::watchdog::{Watchdog, WatchdogState};
 
 /// Calls on Timer1 of the ATmega328P that leave another number in each field: compares, count, mode, outputs, a
 /// capture by the comparator, sleep and power reduction.
@@ -88,4 +89,47 @@ fn reading() {
     assert_eq!(timer.state(), READING, "the library's timer does not read as ours");
     assert_eq!(area[..20], RECORDS, "the library's records are not those of the reading");
     assert_eq!(area[20..], [0xa5; 4], "the library wrote past its records");
+}
+
+/// A watchdog whose calls leave another number in each field.
+const WATCHED: WatchdogState = WatchdogState {
+    count: 3,
+    wdif: true,
+    wdie: true,
+    wde: true,
+    p: 1,
+    opened: Some(768_400),
+    sync: 768_401,
+    latest: 768_402,
+};
+
+/// Compares the library's watchdog with this crate's, once.
+///
+/// # Panics
+/// Where they differ.
+pub fn check_watchdog() {
+    static CHECKED: Once = Once::new();
+    CHECKED.call_once(|| {
+        watched().expect("the library takes the calls");
+    });
+}
+
+/// p 1, an interrupt at its first time-out, and the timed sequence begun again.
+fn watched() -> Result<(), Refusal> {
+    let mut watchdog = Watchdog::start();
+    let mut area = [0xa5; 24];
+    watchdog.write(0x18, 255_999)?;
+    watchdog.write(0x49, 256_000)?;
+    watchdog.advance(768_399, &mut area)?;
+    watchdog.write(0x58, 768_400)?;
+    watchdog.read(768_401)?;
+    watchdog.next(768_402)?;
+    assert_eq!(watchdog.state(), WATCHED, "the library's watchdog does not read as ours");
+    assert_eq!(
+        area[..10],
+        [0xc0, 0, 0, 0, 0, 0x0b, 0xb7, 0x83, 0, 1],
+        "the library's record is not that of the reading"
+    );
+    assert_eq!(area[10..], [0xa5; 14], "the library wrote past its record");
+    Ok(())
 }

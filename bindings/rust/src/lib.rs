@@ -1,4 +1,4 @@
-//! The proved AVR bench timer, held and called from Rust.
+//! The proved AVR bench timer and its watchdog, held and called from Rust.
 //!
 //! The timer's work is the static library of crate `shell`, every function of which is proved to meet its contract. This
 //! crate declares its types again, and is all that is not proved between that contract and a caller: it turns arguments
@@ -24,8 +24,10 @@ mod layout;
 mod raw;
 mod record;
 mod timer;
+mod watchdog;
 
 pub use answer::{Answer, Call, Next, Outcome, Refusal};
 pub use config::{Capture, Clocks, Compare, Config, Layout};
 pub use record::{records, Event, Record, EVENT, RECORD};
 pub use timer::{Advanced, Distance, State, Timer};
+pub use watchdog::{Watchdog, WatchdogState};

@@ -1,5 +1,5 @@
-//! What `crates/shell` exports, in C's layout: the configuration of `crates/config`, the timer of `crates/counter`, and
-//! `asked.rt` and `exports.rt`.
+//! What `crates/shell` exports, in C's layout: the configuration of `crates/config`, the timer of `crates/counter`, the
+//! watchdog of `crates/watchdog`, and `asked.rt`, `exports.rt` and `watchdogs.rt`.
 
 #[repr(C)]
 #[derive(Clone, Copy, Debug, PartialEq, Eq)]
@@ -169,9 +169,64 @@ pub struct Shape {
     pub align: u64,
 }
 
+#[repr(C)]
+#[derive(Clone, Copy, Debug, PartialEq, Eq)]
+pub struct Control {
+    pub wdif: bool,
+    pub wdie: bool,
+    pub wde: bool,
+    pub wdp: u8,
+}
+
+#[repr(C)]
+#[derive(Clone, Copy, Debug, PartialEq, Eq)]
+pub struct Window {
+    pub wdce: bool,
+    pub since: u64,
+}
+
+#[repr(C)]
+#[derive(Clone, Copy, Debug, PartialEq, Eq)]
+pub struct Moving {
+    pub count: u32,
+    pub control: Control,
+    pub window: Window,
+}
+
+#[repr(C)]
+#[derive(Clone, Copy, Debug, PartialEq, Eq)]
+pub struct Watchdog {
+    pub moving: Moving,
+    pub sync: u64,
+    pub latest: u64,
+}
+
+#[repr(C)]
+#[derive(Clone, Copy)]
+pub struct Watched {
+    pub watchdog: Watchdog,
+    pub report: Report,
+}
+
+#[repr(C)]
+#[derive(Clone, Copy)]
+pub struct Report {
+    pub number: u8,
+    pub what: u8,
+    pub value: u64,
+    pub written: u64,
+}
+
 extern "C" {
     pub fn paddlemauve_shape() -> Shape;
     pub fn paddlemauve_start(config: Config) -> Begun;
     pub fn paddlemauve_distance(timer: Timer) -> Distance;
     pub fn paddlemauve_call(timer: &mut Timer, asked: Asked, area: Area) -> Reply;
+    pub fn paddlemauve_watchdog() -> Watchdog;
+    pub fn paddlemauve_watchdog_advance(w: Watchdog, cycle: u64, area: Area) -> Watched;
+    pub fn paddlemauve_watchdog_next(w: Watchdog, cycle: u64) -> Watched;
+    pub fn paddlemauve_watchdog_wdr(w: Watchdog, cycle: u64) -> Watched;
+    pub fn paddlemauve_watchdog_serve(w: Watchdog, cycle: u64) -> Watched;
+    pub fn paddlemauve_watchdog_read(w: Watchdog, cycle: u64) -> Watched;
+    pub fn paddlemauve_watchdog_write(w: Watchdog, value: u8, cycle: u64) -> Watched;
 }

@@ -14,6 +14,8 @@ pub enum Event {
     Flags { raised: u8, lines: u8 },
     /// 1 compare A, 2 compare B, 3 overflow, 4 capture.
     Trigger { trigger: u8, id: u8 },
+    /// A watchdog's time-out, an interrupt or a reset.
+    Watchdog { reset: bool },
 }
 
 #[derive(Clone, Copy, Debug, PartialEq, Eq)]
@@ -31,7 +33,8 @@ impl Record {
         let event = match word >> 62 {
             0 => Event::Pin { pin: high, enable: body & 0x80 != 0, value: body & 0x40 != 0 },
             1 => Event::Flags { raised: high, lines: bytes[9] >> 3 },
-            _ => Event::Trigger { trigger: high >> 4, id: (body >> 4) as u8 },
+            2 => Event::Trigger { trigger: high >> 4, id: (body >> 4) as u8 },
+            _ => Event::Watchdog { reset: body == 2 },
         };
         Self { cycle: word & (1 << 62) - 1, event }
     }

@@ -45,7 +45,7 @@ fn event(timer: &mut Timer, cycle: u64) -> (u8, Vec<u8>) {
         match event {
             Event::Flags { raised: flags, .. } => raised = flags,
             Event::Trigger { trigger, .. } => triggers.push(trigger),
-            Event::Pin { .. } => panic!("no output is on"),
+            Event::Pin { .. } | Event::Watchdog { .. } => panic!("no output is on, and no watchdog"),
         }
     }
     (raised, triggers)

@@ -1,4 +1,4 @@
-// What a script works on: one timer, one scheduler, and where reading and writing stand.
+// What a script works on: one timer, one watchdog, one scheduler, and where reading and writing stand.
 
 use config::Config;
 use counter::state::Timer;
@@ -7,12 +7,15 @@ use page::byte;
 use page::text;
 use page::unreadable;
 use scheduler::Scheduler;
+use watchdog::state::Watchdog;
 ghost use Rattle.bench.specs.Bench.{Sound};
 
-// The timer counts once a configuration was accepted. line is the line's number, held its bytes so far, at the page's.
+// The timer counts once a configuration was accepted, the watchdog once there is a new one. line is the line's number, held its bytes so far, at the page's.
 pub struct Bench {
     pub ready: bool,
     pub timer: Timer,
+    pub watched: bool,
+    pub watchdog: Watchdog,
     pub scheduler: Scheduler,
     pub line: u64,
     pub held: usize,
@@ -29,6 +32,8 @@ impl Bench {
         Bench {
             ready: false,
             timer,
+            watched: false,
+            watchdog: Watchdog::new(),
             scheduler: Scheduler::new(),
             line: 0,
             held: 0,

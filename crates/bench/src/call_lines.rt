@@ -21,7 +21,7 @@ ghost use Rattle.bench.specs.Bench.{Sound};
 ghost use Rattle.counter.specs.Valid.{Valid};
 
 // What stands in every byte of the area before a call.
-const FILL: u8 = 0xa5;
+pub const FILL: u8 = 0xa5;
 
 // A call as a line asks for it, with the area's size.
 struct Asked {
@@ -105,7 +105,7 @@ fn read(line: &[u8], at: usize, name: usize) -> Asked
 }
 
 // The first place from one on that does not hold the fill, else the area's end.
-fn changed(area: &[u8], from: usize) -> usize {
+pub fn changed(area: &[u8], from: usize) -> usize {
     let mut i = from;
     while i < area.len() {
         if area[i] != FILL {

@@ -5,6 +5,7 @@ use crate::call_lines::call_line;
 use crate::config_lines::config_line;
 use crate::config_lines::preset_line;
 use crate::state_lines::state_line;
+use crate::wdt_lines::wdt_line;
 use page::Page;
 use script::pin_lines::pin_line;
 use script::sched_lines::sched_line;
@@ -45,7 +46,7 @@ fn command(b: Bench, line: &[u8], page: &mut Page) -> Bench
     let end = find(line, start, b' ');
     // The calls come first, by their words: call_lines goes by these places.
     let name = place(
-        b"advance next reset wake tifr timsk read peek prr wtifr wtimsk presc route acout sleep tsm write edge config preset state pin sched distance",
+        b"advance next reset wake tifr timsk read peek prr wtifr wtimsk presc route acout sleep tsm write edge config preset state pin sched distance wdt",
         &line[start..end],
     );
     match name {
@@ -59,6 +60,7 @@ fn command(b: Bench, line: &[u8], page: &mut Page) -> Bench
         }
         22 => scheduled(b, line, end, page),
         23 => state_line(b, line, end, true, page),
+        24 => wdt_line(b, line, end, page),
         _ => b.unreadable(page, UNKNOWN_COMMAND),
     }
 }

@@ -5,6 +5,8 @@ mod call_lines;
 mod config_lines;
 mod lines;
 mod state_lines;
+mod wdt_lines;
+mod wdt_shown;
 
 use crate::bench::Bench;
 use crate::lines::LONGEST;

@@ -11,7 +11,7 @@ use page::two;
 ghost use Rattle.counter.specs.Valid.{Valid};
 
 // Puts the bytes written.
-fn records(page: &mut Page, from: usize, area: &[u8], written: usize) -> usize {
+pub fn records(page: &mut Page, from: usize, area: &[u8], written: usize) -> usize {
     let at = number(page, from, b" bytes=", written as u64);
     if written == 0 {
         return text(page, at, b" records=-");

@@ -1,5 +1,6 @@
 pub mod Histories
 pub mod Past
 pub mod Replied
+pub mod Reported
 pub mod Shape
 pub mod Walk

@@ -1,5 +1,6 @@
-// The bench shell: calls on a lent timer, for Rattle, and for Rust and C.
+// The bench shell: calls on a lent timer, for Rattle, and for Rust and C, and a watchdog for these.
 
 pub mod asked;
 pub mod exports;
 pub mod lent;
+pub mod watchdogs;

@@ -55,7 +55,7 @@ impl Figures {
         if let Some(number) = answer.strip_prefix("refused ") {
             *self.refused.entry(number.parse().unwrap_or_default()).or_default() += 1;
         }
-        let Some(view) = judge.view() else { return };
+        let Some(view) = judge.view().filter(|_| name != "wdt") else { return };
         if answer == "ok config" {
             *self.timers.entry(kind(&view)).or_default() += 1;
             self.mode = None;

@@ -7,6 +7,7 @@ pub mod cover;
 pub mod figures;
 pub mod program;
 pub mod shrink;
+pub mod watchdog;
 
 use std::panic;
 

@@ -66,6 +66,15 @@ impl Program {
         Ok(Ran { wrote: fs::read(&to)?, status, time })
     }
 
+    /// What it answers to a script; an error where it ends in failure.
+    pub fn answer(&self, script: &[u8]) -> Result<Vec<u8>, String> {
+        let ran = self.run(script)?;
+        match ran.status.success() {
+            true => Ok(ran.wrote),
+            false => Err(format!("{} ends with {}", self.path.display(), ran.status)),
+        }
+    }
+
     /// The time that a batch took; an error where its answers are not the judge's.
     fn answers(&self, batch: &Batch) -> Result<Duration, String> {
         let ran = self.run(&batch.input)?;

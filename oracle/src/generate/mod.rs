@@ -7,6 +7,7 @@ mod cycles;
 mod others;
 mod rng;
 mod values;
+pub mod watchdog;
 
 use crate::judge::{Follow, Judge, View};
 use crate::script::Play;

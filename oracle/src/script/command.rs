@@ -3,6 +3,7 @@
 use super::config::Config;
 use super::pin::PinLine;
 use super::words::{self, Read, Why};
+use crate::watchdog::Wdt;
 
 /// A call on the timer, without its cycle and its area.
 #[derive(Clone, Copy, Debug, PartialEq, Eq)]
@@ -44,6 +45,7 @@ pub enum Command {
     Distance,
     Pin(PinLine),
     Sched(Sched),
+    Wdt(Wdt),
 }
 
 /// The names of the calls, with how many words each has between its name and its cycle.
@@ -79,6 +81,7 @@ impl Command {
             "distance" => exactly(rest, 0).map(|()| Self::Distance),
             "pin" => PinLine::read(rest).map(Self::Pin),
             "sched" => read_sched(rest).map(Self::Sched),
+            "wdt" => Wdt::read(rest).map(Self::Wdt),
             name => {
                 let (_, arguments) = CALLS.iter().find(|c| c.0 == name).ok_or(Why::UnknownCommand)?;
                 exactly(rest, arguments + 2)?;

@@ -7,6 +7,7 @@ use super::command::{Call, Command, Sched};
 use super::config::Config;
 use super::pin::PinLine;
 use super::words::Why;
+use crate::watchdog::{Watchdog, Wdt};
 
 /// What stands in every byte of the area before each call.
 const FILL: u8 = 0xa5;
@@ -26,12 +27,14 @@ pub trait Side {
 
 pub struct Play<S> {
     pub side: S,
+    /// The same for both sides: the Rust has none.
+    watchdog: Option<Watchdog>,
     lines: usize,
 }
 
 impl<S: Side> Play<S> {
     pub fn new(side: S) -> Self {
-        Self { side, lines: 0 }
+        Self { side, watchdog: None, lines: 0 }
     }
 
     /// Answers the next line; nothing for one without words.
@@ -52,6 +55,7 @@ impl<S: Side> Play<S> {
             Command::Distance => self.side.distance().map_or(Answer::NoTimer.line(&[]), |d| d.to_string()),
             Command::Pin(pin) => self.side.pin(pin).line(&[]),
             Command::Sched(sched) => self.side.sched(*sched).line(&[]),
+            Command::Wdt(wdt) => self.wdt(*wdt),
         }
     }
 
@@ -61,6 +65,16 @@ impl<S: Side> Play<S> {
         match area.iter().skip(answer.bytes()).position(|&b| b != FILL) {
             Some(i) => format!("area changed at {}", answer.bytes() + i),
             None => answer.line(&area),
+        }
+    }
+
+    fn wdt(&mut self, wdt: Wdt) -> String {
+        if wdt == Wdt::New {
+            self.watchdog = Some(Watchdog::default());
+        }
+        match &mut self.watchdog {
+            Some(watchdog) => watchdog.answer(wdt, &mut vec![FILL; wdt.area()]),
+            None => Answer::NoTimer.line(&[]),
         }
     }
 }

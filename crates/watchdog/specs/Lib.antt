@@ -1,0 +1,7 @@
+pub mod State
+pub mod Oscillator
+pub mod Wdtcsr
+pub mod Outcome
+pub mod Calls
+pub mod Claims
+pub mod Readings
