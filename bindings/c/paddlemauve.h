@@ -47,6 +47,7 @@ enum pm_refusal {
     PM_EVENT_DUE,            /* the next event lies at or before the cycle: advance to the cycle first */
     PM_ASLEEP,               /* halted asleep: wake the timer first */
     PM_AREA_TOO_SMALL,       /* lend PM_AREA bytes */
+    PM_LIST_LENGTH = 12,     /* a list of writes has PM_WRITE_BYTES an item */
     PM_PERIOD = 17,          /* a watchdog's prescaler is 0 to 9 */
     PM_NO_CALL = 255         /* the kind is no enum pm_kind */
 };
@@ -72,12 +73,31 @@ struct pm_reply { uint8_t number, what, flags; uint64_t value, written; };
 struct pm_distance { uint32_t ticks; uint8_t flags, looked; };
 
 struct pm_area { uint8_t *start; size_t length; };
+struct pm_list { const uint8_t *start; size_t length; };
 struct pm_shape { uint64_t size, align; };
+
+/* After a list of writes: the timer, the items done, and why it ended. reply: number 0 with PM_NOTHING where all are done, with PM_PAUSED_AT where an item's
+ * advance stopped; else the refusal of the item behind those done. */
+struct pm_ended { struct pm_timer timer; uint64_t done; struct pm_reply reply; };
 
 struct pm_shape paddlemauve_shape(void);
 struct pm_begun paddlemauve_start(struct pm_config config);
 struct pm_distance paddlemauve_distance(struct pm_timer timer);
 struct pm_reply paddlemauve_call(struct pm_timer *timer, struct pm_asked asked, struct pm_area area);
+struct pm_ended paddlemauve_writes(struct pm_timer timer, struct pm_list list, struct pm_area area);
+
+/* The bytes of a write in a list. */
+enum { PM_WRITE_BYTES = 10 };
+
+/* A write as an item of a list: address up to 0x3ff, cycle up to 2^62 - 1. */
+static inline void pm_pack_write(uint8_t *bytes, uint16_t address, uint8_t value, uint64_t cycle)
+{
+    int i;
+    bytes[0] = (uint8_t)(address >> 2);
+    bytes[1] = (uint8_t)(address << 6 | value >> 2);
+    bytes[2] = (uint8_t)(value << 6 | cycle >> 56);
+    for (i = 3; i < PM_WRITE_BYTES; i++) bytes[i] = (uint8_t)(cycle >> 8 * (9 - i));
+}
 
 /* A watchdog. It comes from paddlemauve_watchdog and is replaced by what each call leaves. */
 struct pm_watchdog {

@@ -1,4 +1,4 @@
-/* T1 from C: Timer0 at /1, its next event, and the three records of an advance to it. Then a watchdog's reset. */
+/* T1 and T2 from C: Timer0 at /1, its next event, and the three records of an advance to it; a list of writes. Then a watchdog's reset. */
 #include <assert.h>
 #include <stdalign.h>
 #include <stdio.h>
@@ -43,6 +43,19 @@ int main(void) {
     w = paddlemauve_watchdog_next(w.watchdog, 256000);
     assert(w.report.what == PM_EVENT_AT && w.report.value == 512000);
 
-    puts("T1 from C");
+    /* T2 by one list of writes, on a fresh timer. */
+    uint8_t list[4 * PM_WRITE_BYTES];
+    pm_pack_write(list, 0x44, 0x02, 0);
+    pm_pack_write(list + PM_WRITE_BYTES, 0x47, 124, 0);
+    pm_pack_write(list + 2 * PM_WRITE_BYTES, 0x48, 200, 0);
+    pm_pack_write(list + 3 * PM_WRITE_BYTES, 0x45, 0x03, 0);
+    struct pm_ended ended = paddlemauve_writes(paddlemauve_start(pm_m328p[0].config).timer, (struct pm_list){list, sizeof list}, area);
+    assert(ended.done == 4 && ended.reply.number == 0 && ended.reply.what == PM_NOTHING && ended.reply.written == 0);
+    next = paddlemauve_call(&ended.timer, (struct pm_asked){.kind = PM_NEXT, .cycle = 0}, area);
+    assert(next.what == PM_EVENT_AT && next.value == 8000);
+    ended = paddlemauve_writes(ended.timer, (struct pm_list){list, sizeof list - 1}, area);
+    assert(ended.done == 0 && ended.reply.number == PM_LIST_LENGTH);
+
+    puts("T1 and T2 from C");
     return 0;
 }

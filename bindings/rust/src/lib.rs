@@ -21,6 +21,7 @@
 mod answer;
 mod config;
 mod layout;
+mod list;
 mod raw;
 mod record;
 mod timer;
@@ -28,6 +29,7 @@ mod watchdog;
 
 pub use answer::{Answer, Call, Next, Outcome, Refusal};
 pub use config::{Capture, Clocks, Compare, Config, Layout};
+pub use list::{Why, Write, Written};
 pub use record::{records, Event, Record, EVENT, RECORD};
 pub use timer::{Advanced, Distance, State, Timer};
 pub use watchdog::{Watchdog, WatchdogState};

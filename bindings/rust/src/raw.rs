@@ -161,6 +161,26 @@ impl Area {
     }
 }
 
+/// A `&[u8]` of Rattle.
+#[repr(C)]
+pub struct List {
+    pub start: *const u8,
+    pub length: usize,
+}
+
+impl List {
+    pub fn of(list: &[u8]) -> Self {
+        Self { start: list.as_ptr(), length: list.len() }
+    }
+}
+
+#[repr(C)]
+pub struct Ended {
+    pub timer: Timer,
+    pub done: u64,
+    pub reply: Reply,
+}
+
 /// The bytes that a timer takes, and the multiple of which its address must be.
 #[repr(C)]
 #[derive(Clone, Copy, Debug, PartialEq, Eq)]
@@ -222,6 +242,7 @@ extern "C" {
     pub fn paddlemauve_start(config: Config) -> Begun;
     pub fn paddlemauve_distance(timer: Timer) -> Distance;
     pub fn paddlemauve_call(timer: &mut Timer, asked: Asked, area: Area) -> Reply;
+    pub fn paddlemauve_writes(timer: Timer, list: List, area: Area) -> Ended;
     pub fn paddlemauve_watchdog() -> Watchdog;
     pub fn paddlemauve_watchdog_advance(w: Watchdog, cycle: u64, area: Area) -> Watched;
     pub fn paddlemauve_watchdog_next(w: Watchdog, cycle: u64) -> Watched;

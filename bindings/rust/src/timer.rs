@@ -8,7 +8,7 @@ use crate::{layout, raw};
 /// library's one premise, that the timer is valid, always holds.
 #[derive(Clone, Debug, PartialEq, Eq)]
 pub struct Timer {
-    raw: raw::Timer,
+    pub(crate) raw: raw::Timer,
 }
 
 /// A timer as it stands, not synced.

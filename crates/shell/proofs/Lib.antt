@@ -1,4 +1,5 @@
 pub mod Histories
+pub mod Listed
 pub mod Past
 pub mod Replied
 pub mod Reported

@@ -1,4 +1,5 @@
 pub mod Lent
+pub mod Lists
 pub mod Numbers
 pub mod Histories
 pub mod Watchdogs

@@ -3,4 +3,5 @@
 pub mod asked;
 pub mod exports;
 pub mod lent;
+pub mod lists;
 pub mod watchdogs;

@@ -1,0 +1,12 @@
+-- What the export of a list of writes promises (02, 2.1).
+use Prim.Native.Nat.{ℕ}
+use mathlib.Core.List.{List}
+use mathlib.Core.Path.{_≡_}
+use Rattle.writes.specs.Writes.{Listed}
+use Rattle.shell.specs.declared.lists.Ended.{Ended}
+use Rattle.shell.specs.Numbers.{Replies}
+
+-- the items done, and of timer, reason, bytes written and every byte of the area what a call replies; the timer is valid
+pub record Ends (x : Listed) (r : Ended) (area : List ℕ) : Type 0 where
+  pub done : r .done ≡ x .done
+  pub told : Replies (x .told) (r .timer) (r .reply) area
