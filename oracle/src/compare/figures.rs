@@ -75,7 +75,7 @@ impl Figures {
         } else if name == "preset" {
             self.presets.insert(second.into());
         }
-        if ["ok", "paused", "state "].iter().any(|start| answer.starts_with(start)) {
+        if ["ok", "paused", "state ", "distance "].iter().any(|start| answer.starts_with(start)) {
             let command = if name == "sched" { format!("sched {second}") } else { name.into() };
             self.accepted.insert(command);
         }
