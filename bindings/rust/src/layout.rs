@@ -93,7 +93,7 @@ fn reading() {
 
 /// A watchdog whose calls leave another number in each field.
 const WATCHED: WatchdogState = WatchdogState {
-    count: 3,
+    count: 4,
     wdif: true,
     wdie: true,
     wde: true,
@@ -125,11 +125,7 @@ fn watched() -> Result<(), Refusal> {
     watchdog.read(768_401)?;
     watchdog.next(768_402)?;
     assert_eq!(watchdog.state(), WATCHED, "the library's watchdog does not read as ours");
-    assert_eq!(
-        area[..10],
-        [0xc0, 0, 0, 0, 0, 0x0b, 0xb7, 0x83, 0, 1],
-        "the library's record is not that of the reading"
-    );
+    assert_eq!(area[..10], [0xc0, 0, 0, 0, 0, 0x0b, 0xb7, 0x83, 0, 1], "the library's record is not that of the reading");
     assert_eq!(area[10..], [0xa5; 14], "the library wrote past its record");
     Ok(())
 }
