@@ -15,10 +15,11 @@ use Rattle.counter.proofs.Lasting.{due-keeps}
 use Rattle.counter.proofs.Keeps.{Lasts, valid-lasts}
 use Rattle.timer.specs.Calls.{before}
 
--- it is valid, with the same configuration and halts, and where time passes its sync cycle is the call's
+-- it is valid, with the same configuration, registers and halts, and where time passes its sync cycle is the call's
 pub record Timely (t x : Timer) (syncs : Bool) (cycle : ℕ) : Type 0 where
   pub lasts : Lasts cycle x
   pub config : x .config ≡ t .config
+  pub registers : x .registers ≡ t .registers
   pub halts : x .halts ≡ t .halts
   pub synced : syncs ≡ true → x .clock .sync .0 ≡ cycle
 
@@ -33,5 +34,5 @@ unfolding before synced passed syncTo syncOf start
 timely t true cycle v l u =
     let e = never-stops (settingOf t) (prescalerOf t) (due t cycle) (start t) refl in
     let d = due-keeps t cycle (λ k. true) v l u refl in
-    record { lasts = valid-lasts _ cycle d (simp e (omega arith)) u; config = refl; halts = refl; synced = λ z. simp e }
-timely t false cycle v l u = record { lasts = valid-lasts t cycle v l u; config = refl; halts = refl; synced = λ z. absurd (false≢true z) }
+    record { lasts = valid-lasts _ cycle d (simp e (omega arith)) u; config = refl; registers = refl; halts = refl; synced = λ z. simp e }
+timely t false cycle v l u = record { lasts = valid-lasts t cycle v l u; config = refl; registers = refl; halts = refl; synced = λ z. absurd (false≢true z) }

@@ -1,5 +1,5 @@
 -- What is claimed of the timer: the demands as theorems. Proofs stand apart, in proofs/.
-use Prim.Native.Nat.{ℕ, suc, _+_, _-_, _≤_, _<_}
+use Prim.Native.Nat.{ℕ, suc, _+_, _-_, _%_, _≤_, _<_}
 use mathlib.Core.Bool.{Bool, true, false, _||_}
 use mathlib.Core.List.{List, [], _∷_}
 use mathlib.Core.Path.{_≡_}
@@ -15,7 +15,7 @@ use Rattle.tick.specs.Tick.{tick}
 use Rattle.tick.specs.Skip.{linear}
 use Rattle.counter.specs.Next.{nextAt}
 use Rattle.counter.specs.Fresh.{freshOf}
-use Rattle.counter.specs.Modes.{modeOf, waveOf, prescalerOf, runningOf}
+use Rattle.counter.specs.Modes.{stop, clockAt, modeOf, waveOf, prescalerOf, runningOf}
 use Rattle.passage.specs.Passage.{Passage, ticks, events}
 use Rattle.counter.specs.Setting.{settingOf, movingOf}
 use Rattle.counter.specs.Valid.{Valid}
@@ -58,7 +58,7 @@ pub record Same (t : Timer) (qs : List Request) : Type 0 where
 abbrev pub Alike : Type 0
 Alike = (c : Config) → accepted c ≡ true → (qs : List Request) → Same (freshOf c) qs
 
--- Held: after any list, a counter held by sleep, power reduction or TSM has its count moved only by a TCNT write or a reset
+-- Held: after any list, a counter held by sleep, power reduction or TSM, or whose clock is stopped, has its count moved only by a TCNT write or a reset
 unfoldable pub setsCount : Timer → Call → Bool
 setsCount t (call.Write address value) = eqb (placed t address) 0
 setsCount t call.Reset = true
@@ -82,7 +82,7 @@ setsCount t (call.Prescale mask) = false
 -- by no other call, whatever its arguments
 abbrev pub Held : Type 0
 Held = (c : Config) → accepted c ≡ true → (qs : List Request) (q : Request) → let t = last ticks (freshOf c) qs in
-    t .halts .asleep || t .halts .reduced || t .halts .tsm ≡ true → setsCount t (q .call) ≡ false → told ticks t q .timer .counter .count ≡ t .counter .count
+    (t .halts .asleep || t .halts .reduced || t .halts .tsm) || eqb (clockAt (t .config .clocks) (t .registers .tccrb % 8)) stop ≡ true → setsCount t (q .call) ≡ false → told ticks t q .timer .counter .count ≡ t .counter .count
 
 -- the cycle of the n-th prescaled tick after the sync cycle
 abbrev pub tickCycle : Timer → ℕ → ℕ

@@ -1,6 +1,6 @@
 -- The readings T1 to T10 on the bench (01, "Readings on the bench") and that of 02, 2.5: for each the timer, the calls, and what they must answer.
 use Prim.Native.Nat.{ℕ}
-use mathlib.Core.Bool.{true, false}
+use mathlib.Core.Bool.{Bool, true, false}
 use mathlib.Core.List.{List, [], _∷_, _++_}
 use mathlib.Core.Path.{_≡_}
 use lib.ListN.{take, replicate}
@@ -12,6 +12,7 @@ use Rattle.counter.specs.declared.next.Next.the-variants.{At}
 use Rattle.counter.specs.declared.state.Timer.{Timer}
 use Rattle.counter.specs.Fresh.{freshOf}
 use Rattle.passage.specs.Passage.{ticks}
+use Rattle.wave.specs.Count.{negative}
 use Rattle.timer.specs.declared.calls.Call.{Call}
 use Rattle.timer.specs.declared.calls.Call.the-variants.{Advance, Next, Read, Peek, Write, Edge, Tifr, Sleep, Wake}
 use Rattle.answers.specs.Answers.{Values, none, byte, event, reached, Told}
@@ -69,42 +70,51 @@ timer1 = record {
   sleeprun = 0;
 }
 
--- a call at a cycle, the number, the values and the bytes that it must answer
+-- a call at a cycle, the number, the values and the bytes that it must answer, and whether the direction is then down
 pub record Step : Type 0 where
   pub call : Call
   pub cycle : ℕ
   pub number : ℕ
   pub values : Values
   pub bytes : List ℕ
+  pub falling : Bool
 
 -- what an outcome says of a step
 abbrev pub shown : Step → Told → Step
-shown s x = record { call = s .call; cycle = s .cycle; number = x .number; values = x .values; bytes = take (x .written) (x .area) }
+shown s x = record { call = s .call; cycle = s .cycle; number = x .number; values = x .values; bytes = take (x .written) (x .area); falling = negative (x .timer .counter .direction) }
 
 -- the steps as the plain counter answers them, each with an area of 110 bytes
 unfoldable pub played : Timer → List Step → List Step
 played t [] = []
 played t (s ∷ ss) = shown s (answered ticks t (s .call) (s .cycle) (replicate 110 0)) ∷ played (answered ticks t (s .call) (s .cycle) (replicate 110 0) .timer) ss
 
+-- an accepted call that leaves the direction up
+abbrev pub up : Call → ℕ → Values → List ℕ → Step
+up call cycle values bytes = record { call = call; cycle = cycle; number = 0; values = values; bytes = bytes; falling = false }
+
+-- a step that leaves it down
+abbrev pub down : Step → Step
+down s = record { call = s .call; cycle = s .cycle; number = s .number; values = s .values; bytes = s .bytes; falling = true }
+
 -- a register written
-abbrev pub sets : ℕ → ℕ → ℕ → Step
-sets address value cycle = record { call = Write address value; cycle = cycle; number = 0; values = none; bytes = [] }
+abbrev pub writes : ℕ → ℕ → ℕ → Step
+writes address value cycle = up (Write address value) cycle none []
 
 -- a register peeked
 abbrev pub reads : ℕ → ℕ → ℕ → Step
-reads address cycle value = record { call = Peek address; cycle = cycle; number = 0; values = byte value; bytes = [] }
+reads address cycle value = up (Peek address) cycle (byte value) []
 
 -- a register read as a program does
 abbrev pub gives : ℕ → ℕ → ℕ → Step
-gives address cycle value = record { call = Read address; cycle = cycle; number = 0; values = byte value; bytes = [] }
+gives address cycle value = up (Read address) cycle (byte value) []
 
 -- the next event asked for: its cycle, and the flags that its tick will raise (02, 2.2)
 abbrev pub announces : ℕ → ℕ → ℕ → Step
-announces cycle next raise = record { call = Next; cycle = cycle; number = 0; values = event (At (record { 0 = next }) raise); bytes = [] }
+announces cycle next raise = up Next cycle (event (At (record { 0 = next }) raise)) []
 
 -- an advance that gets there, with its records, and the flags of the then next event (02, 2.2)
 abbrev pub reaches : ℕ → List ℕ → ℕ → Step
-reaches cycle bytes raise = record { call = Advance; cycle = cycle; number = 0; values = reached raise; bytes = bytes }
+reaches cycle bytes raise = up Advance cycle (reached raise) bytes
 
 -- flags of timer 0 raised at a cycle below 2^16, with no line high
 abbrev pub flags : ℕ → ℕ → ℕ → List ℕ
@@ -133,7 +143,7 @@ pub record Reading : Type 0 where
 
 -- CTC with OCR0A 124 and OCR0B 200 at /64
 abbrev pub ctc : List Step
-ctc = sets 0x44 0x02 0 ∷ sets 0x47 124 0 ∷ sets 0x48 200 0 ∷ sets 0x45 0x03 0 ∷ []
+ctc = writes 0x44 0x02 0 ∷ writes 0x47 124 0 ∷ writes 0x48 200 0 ∷ writes 0x45 0x03 0 ∷ []
 
 -- T1 to T10; then a door program's reads of count, compare and count (02, 2.5), in a mode that buffers the compare
 abbrev pub readings : List Reading
@@ -141,57 +151,58 @@ readings =
     record {
       timer = timer0;
       steps =
-          sets 0x45 0x01 0 ∷ announces 0 1 6 ∷ reaches 1 (flags 0 1 6 ++ trigger 0 1 0x10 ++ trigger 0 1 0x20) 1 ∷ announces 1 256 1 ∷ [];
+          writes 0x45 0x01 0 ∷ announces 0 1 6 ∷ reaches 1 (flags 0 1 6 ++ trigger 0 1 0x10 ++ trigger 0 1 0x20) 1 ∷ announces 1 256 1 ∷ [];
     }
     ∷ record { timer = timer0; steps = ctc ++ (announces 0 8000 2 ∷ reaches 8000 (matchA 0x1F 0x40) 2 ∷ announces 8000 16000 2 ∷ []) }
-    ∷ record { timer = timer0; steps = ctc ++ (sets 0x46 124 0 ∷ announces 0 64 0 ∷ reaches 64 [] 2 ∷ reads 0x46 64 0 ∷ announces 64 8064 2 ∷ []) }
+    ∷ record { timer = timer0; steps = ctc ++ (writes 0x46 124 0 ∷ announces 0 64 0 ∷ reaches 64 [] 2 ∷ reads 0x46 64 0 ∷ announces 64 8064 2 ∷ []) }
     ∷ record {
       timer = timer0;
       steps =
-          sets 0x44 0x02 0 ∷ sets 0x47 10 0 ∷ sets 0x48 200 0 ∷ sets 0x46 11 0 ∷ sets 0x45 0x01 0
+          writes 0x44 0x02 0 ∷ writes 0x47 10 0 ∷ writes 0x48 200 0 ∷ writes 0x46 11 0 ∷ writes 0x45 0x01 0
           ∷ announces 0 190 4 ∷ reaches 190 (matchB 0 190) 1 ∷ announces 190 245 1 ∷ reaches 245 (overflow 0 245) 2 ∷ announces 245 256 2 ∷ reaches 256 (matchA 1 0) 2 ∷ [];
     }
     ∷ record {
       timer = timer0;
       steps =
-          sets 0x47 100 0 ∷ sets 0x48 255 0 ∷ sets 0x44 0x01 0 ∷ sets 0x45 0x01 0
-          ∷ announces 0 101 2 ∷ reaches 101 (matchA 0 101) 4 ∷ reaches 256 (matchB 1 0) 2 ∷ reaches 411 (matchA 1 155) 1 ∷ reaches 511 (overflow 1 255) 2 ∷ [];
+          writes 0x47 100 0 ∷ writes 0x48 255 0 ∷ writes 0x44 0x01 0 ∷ writes 0x45 0x01 0
+          ∷ announces 0 101 2 ∷ reaches 101 (matchA 0 101) 4 ∷ down (reaches 256 (matchB 1 0) 2) ∷ down (reaches 411 (matchA 1 155) 1) ∷ reaches 511 (overflow 1 255) 2 ∷ [];
     }
     ∷ record {
       timer = timer0;
       steps =
-          sets 0x47 0 0 ∷ sets 0x48 200 0 ∷ sets 0x44 0x01 0 ∷ sets 0x45 0x09 0
-          ∷ announces 0 1 2 ∷ reaches 1 (matchA 0 1) 3 ∷ reaches 2 (flags 0 2 3 ++ trigger 0 2 0x10 ++ trigger 0 2 0x30) 2 ∷ [];
+          writes 0x47 0 0 ∷ writes 0x48 200 0 ∷ writes 0x44 0x01 0 ∷ writes 0x45 0x09 0
+          ∷ announces 0 1 2 ∷ down (reaches 1 (matchA 0 1) 3) ∷ reaches 2 (flags 0 2 3 ++ trigger 0 2 0x10 ++ trigger 0 2 0x30) 2 ∷ [];
     }
     ∷ record {
       timer = timer0;
       steps =
-          sets 0x47 100 0 ∷ sets 0x48 255 0 ∷ sets 0x44 0x01 0 ∷ sets 0x45 0x01 0
-          ∷ reaches 300 (matchA 0 101 ++ matchB 1 0) 2 ∷ reads 0x46 300 210 ∷ sets 0x44 0x00 300 ∷ reads 0x46 320 230 ∷ announces 320 346 5 ∷ [];
+          writes 0x47 100 0 ∷ writes 0x48 255 0 ∷ writes 0x44 0x01 0 ∷ writes 0x45 0x01 0
+          ∷ down (reaches 300 (matchA 0 101 ++ matchB 1 0) 2) ∷ down (reads 0x46 300 210) ∷ down (writes 0x44 0x00 300)
+          ∷ down (reads 0x46 320 230) ∷ down (announces 320 346 5) ∷ [];
     }
     ∷ record {
       timer = timer1;
       steps =
-          sets 0x89 0x3D 0 ∷ sets 0x88 0x08 0 ∷ sets 0x8B 0xFF 0 ∷ sets 0x8A 0xFF 0 ∷ sets 0x81 0x0D 0 ∷ announces 0 16000000 2 ∷ [];
+          writes 0x89 0x3D 0 ∷ writes 0x88 0x08 0 ∷ writes 0x8B 0xFF 0 ∷ writes 0x8A 0xFF 0 ∷ writes 0x81 0x0D 0 ∷ announces 0 16000000 2 ∷ [];
     }
     ∷ record {
       timer = timer1;
       steps =
-          sets 0x89 0xFF 0 ∷ sets 0x88 0xFF 0 ∷ sets 0x8B 0xFF 0 ∷ sets 0x8A 0xFF 0 ∷ sets 0x81 0x42 0
-          ∷ record { call = Edge 14 1; cycle = 1003; number = 0; values = none; bytes = (0x40 ∷ 0 ∷ 0 ∷ 0 ∷ 0 ∷ 0 ∷ 3 ∷ 0xEB ∷ 0x20 ∷ 0 ∷ []) ++ (0x80 ∷ 0 ∷ 0 ∷ 0 ∷ 0 ∷ 0 ∷ 3 ∷ 0xEB ∷ 0x40 ∷ 0x10 ∷ []) }
-          ∷ reads 0x86 1003 125 ∷ record { call = Edge 14 0; cycle = 1003; number = 0; values = none; bytes = [] } ∷ reads 0x86 1003 125
-          ∷ record { call = Tifr; cycle = 1003; number = 0; values = byte 0x20; bytes = [] } ∷ announces 1003 524288 7 ∷ [];
+          writes 0x89 0xFF 0 ∷ writes 0x88 0xFF 0 ∷ writes 0x8B 0xFF 0 ∷ writes 0x8A 0xFF 0 ∷ writes 0x81 0x42 0
+          ∷ up (Edge 14 1) 1003 none ((0x40 ∷ 0 ∷ 0 ∷ 0 ∷ 0 ∷ 0 ∷ 3 ∷ 0xEB ∷ 0x20 ∷ 0 ∷ []) ++ (0x80 ∷ 0 ∷ 0 ∷ 0 ∷ 0 ∷ 0 ∷ 3 ∷ 0xEB ∷ 0x40 ∷ 0x10 ∷ []))
+          ∷ reads 0x86 1003 125 ∷ up (Edge 14 0) 1003 none [] ∷ reads 0x86 1003 125
+          ∷ up Tifr 1003 (byte 0x20) [] ∷ announces 1003 524288 7 ∷ [];
     }
     ∷ record {
       timer = timer0;
       steps =
-          sets 0x47 200 0 ∷ sets 0x48 200 0 ∷ sets 0x45 0x03 0 ∷ record { call = Sleep 2; cycle = 100; number = 0; values = none; bytes = [] }
-          ∷ record { call = Wake; cycle = 1000; number = 0; values = none; bytes = [] } ∷ reads 0x46 1000 1 ∷ announces 1000 13764 6 ∷ [];
+          writes 0x47 200 0 ∷ writes 0x48 200 0 ∷ writes 0x45 0x03 0 ∷ up (Sleep 2) 100 none []
+          ∷ up Wake 1000 none [] ∷ reads 0x46 1000 1 ∷ announces 1000 13764 6 ∷ [];
     }
     ∷ record {
       timer = timer1;
       steps =
-          sets 0x80 0x01 0 ∷ sets 0x81 0x08 0 ∷ sets 0x89 0x56 0 ∷ sets 0x88 0x78 0 ∷ sets 0x85 0x12 0 ∷ sets 0x84 0x34 0
+          writes 0x80 0x01 0 ∷ writes 0x81 0x08 0 ∷ writes 0x89 0x56 0 ∷ writes 0x88 0x78 0 ∷ writes 0x85 0x12 0 ∷ writes 0x84 0x34 0
           ∷ gives 0x84 0 0x34 ∷ gives 0x89 0 0x56 ∷ gives 0x88 0 0x78 ∷ gives 0x85 0 0x12 ∷ [];
     }
     ∷ []
