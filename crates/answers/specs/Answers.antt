@@ -1,4 +1,5 @@
 -- What a call answers, in 01's terms.
+-- The sheet: nothing of its own, answers are 01's.
 use Prim.Native.Nat.{ℕ}
 use mathlib.Core.Bool.{cond}
 use mathlib.Core.List.{List, _++_}

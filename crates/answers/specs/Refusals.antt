@@ -1,4 +1,5 @@
 -- Calls turned away (01, the table of that name): the first number that applies.
+-- The sheet: nothing of its own, refusals are 01's.
 use Prim.Native.Nat.{ℕ}
 use mathlib.Core.Bool.{Bool, cond, not, _&&_}
 use lib.Dec.{leb, eqb}

@@ -1,4 +1,5 @@
 -- The configuration rules (01, "Calls turned away").
+-- The sheet: "Register Description": which registers, flags and pins a timer has.
 use Prim.Native.Nat.{ℕ, _+_}
 use mathlib.Core.Bool.{Bool, true, false, cond, not, _&&_, _||_}
 use mathlib.Core.Path.{_≡_, refl}

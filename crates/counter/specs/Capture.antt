@@ -1,4 +1,5 @@
 -- Input capture, and edges of the T pin (01, "Registers and capture").
+-- The sheet: "Input Capture Unit"; "Input Capture Trigger Source"; "External Clock Source".
 use Prim.Native.Nat.{ℕ, _/_, _%_}
 use mathlib.Core.Bool.{Bool, true, false, not, _&&_}
 use lib.Bits.{bitOr}

@@ -1,4 +1,5 @@
 -- A fresh timer (01, "Readings on the bench", and refusal 1 of "Calls turned away").
+-- The sheet: the initial values of "Register Description".
 use Prim.Native.Nat.{ℕ}
 use mathlib.Core.Bool.{true, false, cond}
 use mathlib.Core.List.{[], _∷_}

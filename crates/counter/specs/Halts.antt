@@ -1,4 +1,5 @@
 -- Sleep and wake, power reduction, TSM, prescaler reset, reset (01, "Count, direction, next event").
+-- The sheet: "Sleep Modes"; "Power Reduction Register"; "Prescaler Reset"; "GTCCR – General Timer/Counter Control Register".
 use Prim.Native.Nat.{ℕ}
 use mathlib.Core.Bool.{Bool, true, not, _&&_}
 use mathlib.Core.List.{[], _∷_}

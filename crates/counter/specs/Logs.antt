@@ -1,4 +1,5 @@
 -- What a call does to the timer beside letting time pass, with the records it makes.
+-- The sheet: "External Clock Source", of the T pin's tick; the rest is 01's.
 use Prim.Native.Nat.{ℕ, _≤_}
 use mathlib.Core.List.{List, []}
 use mathlib.Core.Path.{_≡_}

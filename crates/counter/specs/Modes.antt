@@ -1,4 +1,5 @@
 -- Mode, kind, TOP, MAX and clock: the tables of 01, "Count, direction, next event".
+-- The sheet: "Modes of Operation"; "Internal Clock Source"; "External Clock Source"; WGM and CS of "Register Description".
 use Prim.Native.Nat.{ℕ, _+_, _*_, _/_, _%_}
 use mathlib.Core.Bool.{Bool, cond, not, _&&_, _||_}
 use mathlib.Core.List.{List, [], _∷_}

@@ -1,4 +1,5 @@
 -- The next event (01, "Count, direction, next event").
+-- The sheet: nothing of its own, it is reckoned from Distance.
 use Prim.Native.Nat.{ℕ, _+_}
 use mathlib.Core.Bool.{cond}
 use Rattle.time.specs.Units.{ticksAt, cycleAt}

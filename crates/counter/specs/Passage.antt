@@ -1,4 +1,5 @@
 -- Time passes: the ticks up to a cycle, or up to the first whose records do not fit.
+-- The sheet: "Internal Clock Source"; the rest is 01's.
 use Prim.Native.Nat.{ℕ, _+_, _-_, max}
 use mathlib.Core.Path.{_≡_}
 use mathlib.Core.Bool.{Bool, true, false, cond}

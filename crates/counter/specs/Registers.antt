@@ -1,4 +1,5 @@
 -- Registers: what an address holds, what reading it yields, what writing it does (01, "Registers and capture").
+-- The sheet: "Accessing 16-bit Registers"; "Reusing the Temporary High Byte Register"; "Compare Match Blocking by TCNT1 Write"; "Force Output Compare"; "Register Description".
 use Prim.Native.Nat.{ℕ, _+_, _*_, _/_, _%_}
 use mathlib.Core.Bool.{Bool, true, false, cond, not, _&&_, _||_}
 use lib.ListN.{getD, set}

@@ -1,4 +1,5 @@
 -- A timer as the ticks of one call see it: what they cannot change, and what they move.
+-- The sheet: COMnx of "Register Description".
 use Prim.Native.Nat.{ℕ, _/_, _%_}
 use mathlib.Core.Bool.{false}
 use Rattle.wave.specs.declared.kinds.Wave.{Wave}

@@ -1,4 +1,5 @@
 -- Two ways to let time pass: tick by tick, and by events.
+-- The sheet: "Internal Clock Source", tick after tick; the rest is 01's.
 use Prim.Native.Nat.{ℕ, zero, suc, _+_, _-_, _<_, _≤_, _^_}
 use mathlib.Core.Path.{_≡_}
 use mathlib.Core.Bool.{Bool, true, false, cond}

@@ -1,4 +1,5 @@
 -- Compare outputs, and the drives recorded on change (01, "Outputs and pins").
+-- The sheet: "Compare Match Output Unit"; "Force Output Compare".
 use Prim.Native.Nat.{ℕ, _+_, _*_, _%_}
 use mathlib.Core.Bool.{Bool, true, false, cond, not, _&&_, Bool·beq}
 use mathlib.Core.List.{List, [], _∷_, _++_}

@@ -1,4 +1,5 @@
 -- A compare channel as a mode has it.
+-- The sheet: "Compare Match Output Unit"; COMnx of "Register Description".
 use Prim.Native.Nat.{ℕ}
 use mathlib.Core.Bool.{Bool, true, false, cond, _||_}
 use lib.Dec.{eqb, leb}

@@ -1,4 +1,5 @@
 -- The step that skips: quiet ticks in one (01, "Count, direction, next event").
+-- The sheet: nothing of its own, it is reckoned from Count.
 use Prim.Native.Nat.{ℕ, _+_}
 use Rattle.wave.specs.declared.kinds.Wave.{Wave}
 use Rattle.wave.specs.Distance.{gap, skipped}

@@ -1,4 +1,5 @@
 -- One tick, from the old count and the old TOP: what happens in it, and what it leaves (01, "Count, direction, next event").
+-- The sheet: "Output Compare Unit"; "Timer/Counter Timing Diagrams"; TIFR of "Register Description".
 use Prim.Native.Nat.{ℕ, _+_, _*_, _≤_}
 use mathlib.Core.Path.{_≡_}
 use mathlib.Core.Bool.{Bool, false, cond, not, _&&_, _||_}

@@ -1,4 +1,5 @@
 -- The clock that a timer keeps (01, "Count, direction, next event").
+-- The sheet: "Internal Clock Source"; "Prescaler Reset".
 use Prim.Native.Nat.{ℕ, _+_, _-_, max}
 use mathlib.Core.Bool.{Bool, cond}
 use Rattle.time.specs.declared.clock.Clock.{Clock}

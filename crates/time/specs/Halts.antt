@@ -1,4 +1,5 @@
 -- What holds the counter (01, "Count, direction, next event"), and whether the comparator feeds the capture (01, "Registers and capture").
+-- The sheet: "Sleep Modes"; "Power Reduction Register"; "GTCCR – General Timer/Counter Control Register"; "Input Capture Trigger Source".
 use Prim.Native.Nat.{ℕ}
 use mathlib.Core.Bool.{Bool, true, false, _||_}
 use Rattle.time.specs.declared.halts.Halts.{Halts}

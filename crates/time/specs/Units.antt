@@ -1,4 +1,5 @@
 -- Cycles and ticks (01, "Count, direction, next event"). A cycle number becomes a tick number only here.
+-- The sheet: "Internal Clock Source".
 use Prim.Native.Nat.{ℕ, _+_, _-_, _*_, _/_, _^_}
 use mathlib.Core.Bool.{cond}
 use lib.Dec.{ltb}

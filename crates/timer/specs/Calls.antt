@@ -1,4 +1,5 @@
 -- What each call does: refusals first, then the time that passes, then its own work (01, "The record area", and its sections on the calls).
+-- The sheet: TIFR and TIMSK of "Register Description"; each call's work is in counter.
 use Prim.Native.Nat.{ℕ, _-_, _%_}
 use mathlib.Core.Bool.{Bool, true, false, cond, not, _&&_, _||_, Bool·beq}
 use mathlib.Core.List.{List, [], _++_}

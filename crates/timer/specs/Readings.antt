@@ -1,4 +1,5 @@
 -- The readings T1 to T10 on the bench (01, "Readings on the bench") and that of 02, 2.5: for each the timer, the calls, and what they must answer.
+-- The sheet: nothing of its own, readings are 01's.
 use Prim.Native.Nat.{ℕ}
 use mathlib.Core.Bool.{Bool, true, false}
 use mathlib.Core.List.{List, [], _∷_, _++_}

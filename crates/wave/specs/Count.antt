@@ -1,4 +1,5 @@
 -- How the count goes: TOP, matches, overflow, loads, the next count and direction (01, "Count, direction, next event").
+-- The sheet: "Counter Unit"; "Modes of Operation", from "Normal Mode" to "Phase and Frequency Correct PWM Mode"; "Compare Match Blocking by TCNT0 Write".
 use Prim.Native.Nat.{ℕ, _+_, _-_, _%_, _^_}
 use mathlib.Core.Path.{_≡_}
 use mathlib.Core.Bool.{Bool, true, false, cond, not, _&&_, _||_}

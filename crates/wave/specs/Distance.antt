@@ -1,4 +1,5 @@
 -- Quiet ticks ahead, and the count after them (01, "Count, direction, next event").
+-- The sheet: nothing of its own, it is reckoned from Count.
 use Prim.Native.Nat.{ℕ, suc, _+_, _-_, min}
 use mathlib.Core.Bool.{Bool, cond, _&&_}
 use mathlib.Core.List.{List, [], _∷_}
