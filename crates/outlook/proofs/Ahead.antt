@@ -10,7 +10,7 @@ use lib.ListN.{getD}
 use borrow.Author.Tests.{leb-true, leb-false, le-leb, lt-leb}
 use Rattle.wave.specs.declared.count.Counter.{Counter}
 use Rattle.wave.specs.declared.kinds.Wave.{Wave}
-use Rattle.wave.specs.Count.{falls, topOf}
+use Rattle.wave.specs.Count.{falls, topOf, counted}
 use Rattle.wave.specs.Distance.{space, ahead, gapAt, gap, moved, skipped}
 use Rattle.tick.specs.declared.setting.Moving.{Moving}
 use Rattle.tick.specs.declared.setting.Setting.{Setting}
@@ -82,9 +82,12 @@ none-both : (x : Bool) (a b : ℕ) → x && eqb a 0 && eqb b 0 ≡ x && eqb (a +
 none-both x zero b = simp (and-true, zero-add)
 none-both x (suc a) b = simp (eqb·suc-zero, suc-add, and-false)
 
+counted-add : (odometer a b : ℕ) → counted (counted odometer a) b ≡ counted odometer (a + b)
+counted-add odometer a b = omega arith
+
 linear-add : (w : Wave) (a b : ℕ) (m : Moving) → linear w b (linear w a m) ≡ linear w (a + b) m
 unfolding linear falls
-linear-add w a b m = simp (moved-add, none-both)
+linear-add w a b m = simp (moved-add, none-both, counted-add)
 
 -- ---- the flags stay
 pub flags-stay : (s : Setting) (n : ℕ) (m : Moving) → n ≤ gap (s .wave) (m .counter) (m .ocr) → flagsAhead s (linear (s .wave) n m) ≡ flagsAhead s m

@@ -125,7 +125,7 @@ unfolding touches works readTimer routedTo nextAt runningOf divisorOf heldOf set
 work-same t call.Advance cycle r h = latest-same t cycle
 work-same t call.Next cycle r h = latest-same t cycle
 work-same t (call.Read address) cycle r h =
-    cond-all (λ (x : Timer). Same t (latestTo x cycle)) (leb (placed t address) 9 && not (eqb (placed t address % 2) 1) && t .config .wide) (record { running = refl; next = refl; flags = refl }) (latest-same t cycle)
+    cond-all (λ (x : Timer). Same t (latestTo x cycle)) ((eqb (placed t address) 0 || eqb (placed t address) 8) && t .config .wide) (record { running = refl; next = refl; flags = refl }) (latest-same t cycle)
 work-same t (call.Peek address) cycle r h = latest-same t cycle
 work-same t (call.Write address value) cycle r h = absurd (true≢false h)
 work-same t call.Tifr cycle r h = latest-same t cycle

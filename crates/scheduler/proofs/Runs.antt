@@ -18,15 +18,15 @@ use Rattle.events.specs.Events.{blank, same, placeOf, earliest, foremost, swapR
 use Rattle.scheduler.specs.Scheduler.{holding, held, holds, refuses, put, scheduled, removed, popped, Valid}
 use Rattle.scheduler.specs.Runs.{Call, at, cancel, isScheduled, popDue, clear, next, after, run, Sound, Always}
 use Rattle.events.proofs.Lists.{position-passes, position-within, earliest-low, earliest-met, foremost-within, from, length-swap, getD-swap, from-within}
-use Rattle.events.proofs.Places.{kept}
+use Rattle.events.proofs.Places.{kept, count-is}
 use Rattle.scheduler.proofs.Calls.{made}
 
 -- ---- keys
 
-same-refl : (a : EventKey) → same a a ≡ true
+pub same-refl : (a : EventKey) → same a a ≡ true
 same-refl a = simp (eq-eqb (a .owner) (a .owner) refl, eq-eqb (a .tag) (a .tag) refl)
 
-same-key : (a b : EventKey) → same a b ≡ true → a ≡ b
+pub same-key : (a b : EventKey) → same a b ≡ true → a ≡ b
 same-key a b e = go (eqb (a .owner) (b .owner)) refl (eqb (a .tag) (b .tag)) refl e
   where
     go : (o : Bool) → eqb (a .owner) (b .owner) ≡ o → (t : Bool) → eqb (a .tag) (b .tag) ≡ t → o && t ≡ true → a ≡ b
@@ -164,17 +164,24 @@ unfolding earliest
 empty [] h = refl
 empty (e ∷ l) h = absurd (suc-ne-zero (length l) h)
 
+kept-sound : {s : Scheduler} → Kept s → Sound s
+kept-sound {s} k =
+    let c = k .valid .cached in
+    record {
+      valid = k .valid;
+      once = k .good .once;
+      room = k .valid .packed .room;
+      low = λ i h. rw c (earliest-low (held s) i h);
+      met = λ h. rw c (earliest-met (held s) h);
+      none = λ h. c ∙ empty (held s) h;
+    }
+
 pub always : Always
-always calls = sound (run-kept (holding []) calls (holding-kept [] none-good))
-  where
-    sound : {s : Scheduler} → Kept s → Sound s
-    sound {s} k =
-        let c = k .valid .cached in
-        record {
-          valid = k .valid;
-          once = k .good .once;
-          room = k .valid .packed .room;
-          low = λ i h. rw c (earliest-low (held s) i h);
-          met = λ h. rw c (earliest-met (held s) h);
-          none = λ h. c ∙ empty (held s) h;
-        }
+always calls = kept-sound (run-kept (holding []) calls (holding-kept [] none-good))
+
+-- one call more
+pub after-sound : (s : Scheduler) (call : Call) → Sound s → Sound (after s call)
+after-sound s call x =
+    let n = count-is (s .events) (x .valid .packed) in
+    let r = x .room in
+    kept-sound (after-kept s call (record { valid = x .valid; good = record { once = x .once; room = omega arith } }))

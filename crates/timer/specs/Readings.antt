@@ -5,71 +5,17 @@ use mathlib.Core.Bool.{Bool, true, false}
 use mathlib.Core.List.{List, [], _∷_, _++_}
 use mathlib.Core.Path.{_≡_}
 use lib.ListN.{take, replicate}
-use Rattle.config.specs.declared.Compare.{Compare}
 use Rattle.config.specs.declared.Config.{Config}
-use Rattle.config.specs.declared.Wire.{Wire}
-use Rattle.config.specs.Config.{noCompare, noCapture}
 use Rattle.counter.specs.declared.next.Next.the-variants.{At}
 use Rattle.counter.specs.declared.state.Timer.{Timer}
 use Rattle.counter.specs.Fresh.{freshOf}
+use Rattle.m328p.specs.Timers.{timer0, timer1}
 use Rattle.passage.specs.Passage.{ticks}
 use Rattle.wave.specs.Count.{negative}
 use Rattle.timer.specs.declared.calls.Call.{Call}
 use Rattle.timer.specs.declared.calls.Call.the-variants.{Advance, Next, Read, Peek, Write, Edge, Tifr, Sleep, Wake}
 use Rattle.answers.specs.Answers.{Values, none, byte, event, reached, Told}
 use Rattle.timer.specs.Calls.{answered}
-
--- a pin
-abbrev pub wire : ℕ → Wire
-wire pin = record { present = true; pin = pin }
-
--- a compare unit of the ATmega328P
-abbrev pub compare : ℕ → ℕ → ℕ → ℕ → Compare
-compare address flag force pin = record { present = true; address = address; flag = flag; force = force; wire = wire pin }
-
--- Timer0 of the ATmega328P, in the 28-pin DIP
-abbrev pub timer0 : Config
-timer0 = record {
-  id = 0;
-  wide = false;
-  layout = 0;
-  tccra = 0x44;
-  tccrb = 0x45;
-  foc = 0x45;
-  tcnt = 0x46;
-  a = compare 0x47 2 0x80 12;
-  b = compare 0x48 4 0x40 11;
-  c = noCompare;
-  icr = noCapture;
-  tov = 1;
-  t = wire 6;
-  clocks = 0;
-  group = 1;
-  prr = 0x20;
-  sleeprun = 0;
-}
-
--- Timer1 of the ATmega328P
-abbrev pub timer1 : Config
-timer1 = record {
-  id = 1;
-  wide = true;
-  layout = 0;
-  tccra = 0x80;
-  tccrb = 0x81;
-  foc = 0x82;
-  tcnt = 0x84;
-  a = compare 0x88 2 0x80 15;
-  b = compare 0x8A 4 0x40 16;
-  c = noCompare;
-  icr = record { present = true; address = 0x86; flag = 0x20; wire = wire 14 };
-  tov = 1;
-  t = wire 11;
-  clocks = 0;
-  group = 1;
-  prr = 8;
-  sleeprun = 0;
-}
 
 -- a call at a cycle, the number, the values and the bytes that it must answer, and whether the direction is then down
 pub record Step : Type 0 where

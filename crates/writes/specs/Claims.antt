@@ -11,7 +11,8 @@ use Rattle.passage.specs.Passage.{Passage, ticks, events}
 use Rattle.answers.specs.Answers.{Values, none, paused, Told}
 use Rattle.timer.specs.declared.calls.Call.{Call}
 use Rattle.timer.specs.declared.calls.Call.the-variants as call
-use Rattle.timer.specs.Readings.{timer0, flags, trigger}
+use Rattle.m328p.specs.Timers.{timer0}
+use Rattle.timer.specs.Readings.{flags, trigger}
 use Rattle.timer.specs.Claims.{Request, told, outcomes, last}
 use Rattle.writes.specs.declared.items.Item.{Item}
 use Rattle.writes.specs.Writes.{stopping, Listed, listed, listing}

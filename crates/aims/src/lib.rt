@@ -1,0 +1,106 @@
+// What an order to the board aims at: nothing, GTCCR alone, one timer, or all three.
+
+use m328p::Id;
+use m328p::Place;
+use m328p::placed;
+use timer::calls::Call;
+ghost use mathlib.Core.Path.{_≡_};
+ghost use Rattle.aims.specs.Aims.{storedOf, castOf, lookedAt, writtenAt, aimOf};
+
+// A call on the board: of one timer by its id or by an address, or of all three.
+pub enum Order {
+    Advance(Id),
+    Next(Id),
+    Reset(Id),
+    Edge(Id, u8, u8),
+    Route(Id, u8),
+    Output(Id, u8),
+    Read(u16),
+    Peek(u16),
+    Write(u16, u8),
+    Sleep(u8),
+    Wake,
+    Reduce(u8),
+}
+
+// What reaches all three timers: sleep in a mode, wake, the PRR byte, prescaler resets by GTCCR's bits, and the same after TSM takes a level.
+pub enum Cast {
+    Sleep(u8),
+    Wake,
+    Reduce(u8),
+    Prescale(u8),
+    Synchronise(u8, u8),
+}
+
+// An address that is nobody's, GTCCR shown, a timer's own call, or what reaches all three, with GTCCR after it.
+pub enum Aim {
+    Nowhere,
+    Shown,
+    Own(Id, Call),
+    All(Cast, u8),
+}
+
+// Yields GTCCR after a byte is written: the reset bits are kept with TSM alone.
+fn stored(value: u8) -> u8
+    ensures { λ r. ⌜ r ≡ storedOf value ⌝ }
+{
+    if value < 0x80 { 0 } else { value & 0x83 }
+}
+
+// Yields what a byte written to GTCCR casts: TSM where bit 7 changes, then the prescaler resets.
+fn casting(gtccr: u8, value: u8) -> Cast
+    ensures { λ r. ⌜ r ≡ castOf gtccr value ⌝ }
+{
+    let level = value / 0x80;
+    let mask = value & 3;
+    if level == gtccr / 0x80 {
+        return Cast::Prescale(mask);
+    }
+    Cast::Synchronise(level, mask)
+}
+
+// Yields what a read or a peek aims at; a timer's own register is looked at by the call.
+fn looked(place: Place, call: Call) -> Aim
+    ensures { λ r. ⌜ r ≡ lookedAt place call ⌝ }
+{
+    match place {
+        Place::Gtccr => Aim::Shown,
+        Place::Tifr(id) => Aim::Own(id, Call::Tifr),
+        Place::Timsk(id) => Aim::Own(id, Call::Timsk),
+        Place::Register(id) => Aim::Own(id, call),
+        Place::Nowhere => Aim::Nowhere,
+    }
+}
+
+// Yields what a write aims at.
+fn written(place: Place, address: u16, value: u8, gtccr: u8) -> Aim
+    ensures { λ r. ⌜ r ≡ writtenAt place address value gtccr ⌝ }
+{
+    match place {
+        Place::Gtccr => Aim::All(casting(gtccr, value), stored(value)),
+        Place::Tifr(id) => Aim::Own(id, Call::WriteTifr(value)),
+        Place::Timsk(id) => Aim::Own(id, Call::WriteTimsk(value)),
+        Place::Register(id) => Aim::Own(id, Call::Write(address, value)),
+        Place::Nowhere => Aim::Nowhere,
+    }
+}
+
+// Yields what an order aims at, with GTCCR as it stands.
+pub fn aimed(order: Order, gtccr: u8) -> Aim
+    ensures { λ r. ⌜ r ≡ aimOf order gtccr ⌝ }
+{
+    match order {
+        Order::Advance(id) => Aim::Own(id, Call::Advance),
+        Order::Next(id) => Aim::Own(id, Call::Next),
+        Order::Reset(id) => Aim::Own(id, Call::Reset),
+        Order::Edge(id, pin, level) => Aim::Own(id, Call::Edge(pin, level)),
+        Order::Route(id, level) => Aim::Own(id, Call::Route(level)),
+        Order::Output(id, level) => Aim::Own(id, Call::Output(level)),
+        Order::Read(address) => looked(placed(address), Call::Read(address)),
+        Order::Peek(address) => looked(placed(address), Call::Peek(address)),
+        Order::Write(address, value) => written(placed(address), address, value, gtccr),
+        Order::Sleep(mode) => Aim::All(Cast::Sleep(mode), gtccr),
+        Order::Wake => Aim::All(Cast::Wake, gtccr),
+        Order::Reduce(value) => Aim::All(Cast::Reduce(value), gtccr),
+    }
+}

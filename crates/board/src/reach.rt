@@ -1,0 +1,53 @@
+// One timer under what reaches all three.
+
+use crate::outcome::number;
+use aims::Cast;
+use answers::Outcome;
+use answers::refused;
+use counter::state::Timer;
+use time::units::Cycle;
+use timer::calls::prescale;
+use timer::calls::reduce;
+use timer::calls::sleep;
+use timer::calls::tsm;
+use timer::calls::wake;
+ghost use Rattle.passage.specs.Passage.{ticks};
+ghost use Rattle.counter.specs.Valid.{Valid as Running};
+ghost use Rattle.answers.specs.Answers.{Tells};
+ghost use Rattle.timer.specs.Calls.{answered};
+ghost use Rattle.timer.specs.declared.calls.Call.{Call};
+ghost use Rattle.board.specs.Calls.{prescaled, reached};
+
+// TSM takes a level, and then prescalers are reset; the timer is as it was where either is refused.
+fn synchronise(t: Timer, level: u8, mask: u8, cycle: Cycle, area: &mut [u8]) -> Outcome
+    requires { ⌜ Running t ⌝ }
+    ensures { λ r. ⌜ Tells (prescaled ticks t mask (cycle .0) (now (area .entry)) (answered ticks t (Call.Tsm level) (cycle .0) (now (area .entry)))) r (now (area .exit)) ⌝ }
+{
+    let x = tsm(t, level, cycle, area);
+    let answer = x.answer;
+    if number(answer) != 0 {
+        return x;
+    }
+    let u = x.timer;
+    let y = prescale(u, mask, cycle, area);
+    let answer = y.answer;
+    let n = number(answer);
+    if n != 0 {
+        return refused(t, n);
+    }
+    y
+}
+
+// Yields what one timer answers.
+pub fn reach(t: Timer, cast: Cast, cycle: Cycle, area: &mut [u8]) -> Outcome
+    requires { ⌜ Running t ⌝ }
+    ensures { λ r. ⌜ Tells (reached ticks t cast (cycle .0) (now (area .entry))) r (now (area .exit)) ⌝ }
+{
+    match cast {
+        Cast::Sleep(mode) => sleep(t, mode, cycle, area),
+        Cast::Wake => wake(t, cycle, area),
+        Cast::Reduce(value) => reduce(t, value as u16, cycle, area),
+        Cast::Prescale(mask) => prescale(t, mask, cycle, area),
+        Cast::Synchronise(level, mask) => synchronise(t, level, mask, cycle, area),
+    }
+}
