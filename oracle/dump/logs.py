@@ -16,7 +16,9 @@ def some_body(r, kind):
         return r.choice([r.randrange(256), 0, 5, 255]) << 8 | r.randrange(4) << 6
     if kind == 1:
         return r.randrange(2**13) << 3
-    return r.randrange(2**12) << 4
+    if kind == 2:
+        return r.randrange(2**12) << 4
+    return r.choice([1, 2])
 
 
 def some_log(r):
@@ -25,7 +27,7 @@ def some_log(r):
     cycle = r.choice([0, 0, 1, r.randrange(2**20), 2**48 - 40])
     log = b""
     for _ in range(r.choice([0, 1, 2, r.randrange(30)])):
-        kind = r.choice([0, 0, 0, 1, 2])
+        kind = r.choice([0, 0, 0, 1, 2, 3])
         body = some_body(r, kind)
         step = r.choice([0, 0, 1, r.randrange(9), r.randrange(2**16)])
         cycle = min(cycle + step, 2**48 - 1)
@@ -34,7 +36,7 @@ def some_log(r):
             if fault == 0:
                 body ^= 1 << r.randrange(6)
             elif fault == 1:
-                kind, body = 3, r.choice([0, 1, 2, 3, 0x100, 0xFFFF])
+                kind, body = 3, r.choice([0, 3, 4, 0x100, 0xFFFF])
             elif fault == 2:
                 cycle = max(cycle - 1 - r.randrange(5), 0)
             else:

@@ -1,4 +1,4 @@
-"""The dump of a record log, from the words of the request alone: 2.3 with 2.10's length."""
+"""The dump of a record log, from the words of the request alone: 2.3 with 2.10's length and 2.8's records of the watchdog."""
 
 LONGEST = 2**30
 
@@ -10,7 +10,9 @@ def records(log):
 
 
 def formed(kind, body):
-    return kind < 3 and body % {0: 64, 1: 8, 2: 16}[kind] == 0
+    if kind == 3:
+        return body in (1, 2)
+    return body % {0: 64, 1: 8, 2: 16}[kind] == 0
 
 
 def refusal(log):

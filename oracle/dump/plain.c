@@ -53,7 +53,7 @@ static int well_formed(unsigned kind, unsigned body)
     case 0: return body % 64 == 0;
     case 1: return body % 8 == 0;
     case 2: return body % 16 == 0;
-    default: return 0;
+    default: return body == 1 || body == 2;
     }
 }
 

@@ -18,7 +18,7 @@ pub record Change : Type 0 where
 unfoldable pub stateOf : ℕ → ℕ
 stateOf body = cond (eqb (body / 128 % 2) 1) (48 + body / 64 % 2) 122
 
--- the change in ten bytes: one in a pin record; flag and trigger records are passed over (02, 2.3)
+-- the change in ten bytes: one in a pin record; flag and trigger records (02, 2.3) and those of the watchdog (02, 2.8) are passed over
 unfoldable pub changeIn : List ℕ → List Change
 changeIn r = cond (eqb (kindIn r) 0) (record { pin = bodyIn r / 256; cycle = cycleIn r; state = stateOf (bodyIn r) } ∷ []) []
 

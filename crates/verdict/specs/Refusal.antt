@@ -1,17 +1,18 @@
 -- Why a record log is refused (02, 2.3 and 2.10).
 use Prim.Native.Nat.{ℕ, zero, suc, _-_, _/_, _%_, _^_}
-use mathlib.Core.Bool.{Bool, false, cond, _&&_}
+use mathlib.Core.Bool.{Bool, false, cond, _&&_, _||_}
 use mathlib.Core.List.{List}
 use lib.Dec.{eqb, ltb, leb}
 use lib.ListN.{length}
 use Rattle.records.specs.Records.{recordAt, kindIn, cycleIn, bodyIn}
 
--- a kind that is used, and filler bits that are zero: six in a pin record, three in a flag record, four in a trigger record
+-- filler bits that are zero: six in a pin record, three in a flag record, four in a trigger record; of the watchdog (02, 2.8) body 1, an interrupt, or 2, a reset
 unfoldable pub formed : ℕ → ℕ → Bool
 formed kind body =
     cond (eqb kind 0) (eqb (body % 64) 0)
     (cond (eqb kind 1) (eqb (body % 8) 0)
-    (cond (eqb kind 2) (eqb (body % 16) 0) false))
+    (cond (eqb kind 2) (eqb (body % 16) 0)
+    (cond (eqb kind 3) (eqb body 1 || eqb body 2) false)))
 
 -- the cycle of the record before the nth, 0 where there is none
 unfoldable pub before : List ℕ → ℕ → ℕ

@@ -12,7 +12,7 @@ pub struct Judge {
     found: u8,
 }
 
-// Is the kind used, and is the filler zero?
+// Is the filler zero, and is a record of the watchdog one of its two?
 fn formed(kind: u64, body: u16) -> bool
     ensures { λ r. ⌜ r ≡ formed kind body ⌝ }
 {
@@ -24,6 +24,9 @@ fn formed(kind: u64, body: u16) -> bool
     }
     if kind == 2 {
         return body % 16 == 0;
+    }
+    if kind == 3 {
+        return (body == 1) | (body == 2);
     }
     false
 }
