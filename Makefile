@@ -71,7 +71,7 @@ bindings: library
 	$(CXX) $(WARN) -std=c++11 -o target/door bindings/c/door.cpp $(LIBRARY)
 	target/door
 	$(CC) $(WARN) -std=c11 -o target/m328p bindings/c/m328p.c
-	@target/m328p | while read -r keys; do grep -qF "\"$$keys\"" crates/script/src/presets.rt || { echo "bindings: paddlemauve_m328p.h has a timer that is no preset: $$keys" >&2; exit 1; }; done
+	@target/m328p | while read -r keys; do grep -qF "\"$$keys\"" oracle/src/script/presets.rs || { echo "bindings: paddlemauve_m328p.h has a timer that is no preset: $$keys" >&2; exit 1; }; done
 ifneq ($(MCS),)
 	$(CARGO) build --release --offline --manifest-path bindings/against/Cargo.toml
 	bindings/against/target/release/against $(CALLS) $(SEED)

@@ -39,7 +39,7 @@ static void hold()
 
     // The close, after a read that came too early.
     assert(timer.call(PM_READ, 48000000, 0x84).number == PM_EVENT_DUE);
-    assert(timer.call(PM_ADVANCE, 48000000).what == PM_NOTHING);
+    assert(timer.call(PM_ADVANCE, 48000000).what == PM_REACHED);
     const pm_record &close = timer.records[2];
     assert(close.kind == PM_FLAGS && close.cycle == 48000000 && close.flags == 0x02 && close.lines == PM_LINE_A);
     assert(timer.call(PM_READ, 48000000, 0x84).value == 0);
@@ -53,7 +53,7 @@ static void motor()
     assert(timer.call(PM_WRITE, 0, 0x47, 191).number == 0);
     assert(timer.call(PM_WRITE, 0, 0x44, 0x83).number == 0);
     assert(timer.call(PM_WRITE, 0, 0x45, 0x02).number == 0);
-    assert(timer.call(PM_ADVANCE, 2048).what == PM_NOTHING);
+    assert(timer.call(PM_ADVANCE, 2048).what == PM_REACHED);
     std::vector<pm_record> pins;
     for (const auto &r : timer.records)
         if (r.kind == PM_PIN) pins.push_back(r);

@@ -1,6 +1,7 @@
 /* T1 and T2 from C: Timer0 at /1, its next event, and the three records of an advance to it; a list of writes. Then a watchdog's reset. */
 #include <assert.h>
 #include <stdalign.h>
+#include <string.h>
 #include <stdio.h>
 
 #include "paddlemauve_m328p.h"

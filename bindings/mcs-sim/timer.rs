@@ -148,7 +148,7 @@ impl Timer {
             let Outcome { answer, written } = self.timer.call(call, self.latest, &mut area);
             self.tell(&area[..written], cx);
             match answer {
-                Answer::Paused(_) => (),
+                Answer::Paused(..) => (),
                 Answer::Refused(Refusal::EventDue) => {
                     self.ask(Call::Advance, cycle, cx);
                     self.schedule(cx);
@@ -168,7 +168,7 @@ impl Timer {
     /// The next event to the machine's scheduler. One that is due already stands there.
     fn schedule(&mut self, cx: &mut Cx) {
         match self.timer.next(self.latest) {
-            Ok(Some(at)) => cx.schedule(EV_TICK, at),
+            Ok(Some(next)) => cx.schedule(EV_TICK, next.cycle),
             Ok(None) => cx.cancel(EV_TICK),
             Err(_) => (),
         }

@@ -1,7 +1,7 @@
 //! The watchdog by prescaler and time-outs: an advance costs by the time-outs, not by the oscillator's ticks.
 
 use crate::callgrind;
-use paddlemauve::{Advanced, Watchdog};
+use paddlemauve::{Watchdog, WatchdogAdvanced};
 
 const PRESCALERS: [u8; 3] = [0, 4, 9];
 
@@ -37,8 +37,8 @@ pub fn run(p: u8, timeouts: u64, steps: u64) -> usize {
     let mut written = 0;
     for k in 1..=steps {
         match watchdog.advance(k * step, &mut area).expect("cycles rise") {
-            Advanced::Done { written: bytes, .. } => written += bytes,
-            Advanced::Paused { .. } => panic!("4,096 bytes hold the time-outs"),
+            WatchdogAdvanced::Done { written: bytes, .. } => written += bytes,
+            WatchdogAdvanced::Paused { .. } => panic!("4,096 bytes hold the time-outs"),
         }
     }
     assert_eq!(written as u64, 10 * timeouts * steps);

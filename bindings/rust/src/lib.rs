@@ -32,4 +32,4 @@ pub use config::{Capture, Clocks, Compare, Config, Layout};
 pub use list::{Why, Write, Written};
 pub use record::{records, Event, Record, EVENT, RECORD};
 pub use timer::{Advanced, Distance, State, Timer};
-pub use watchdog::{Watchdog, WatchdogState};
+pub use watchdog::{Watchdog, WatchdogAdvanced, WatchdogState};

@@ -58,7 +58,7 @@ impl Timer {
     ///     Write { address: 0x45, value: 0x03, cycle: 0 },
     /// ];
     /// assert_eq!(timer.writes(&list, &mut area), Written { done: 3, written: 0, why: Why::AllDone });
-    /// assert_eq!(timer.next(0)?, Some(64));
+    /// assert_eq!(timer.next(0)?.map(|next| next.cycle), Some(64));
     /// # Ok::<(), paddlemauve::Refusal>(())
     /// ```
     pub fn writes(&mut self, list: &[Write], area: &mut [u8]) -> Written {
@@ -71,7 +71,7 @@ impl Timer {
         self.raw = ended.timer;
         let why = match Answer::of(&ended.reply) {
             Answer::Refused(why) => Why::Refused(why),
-            Answer::Paused(sync) => Why::Paused(sync),
+            Answer::Paused(sync, _) => Why::Paused(sync),
             _ if fits < list.len() => Why::Refused(Refusal::CycleTooLarge),
             _ => Why::AllDone,
         };

@@ -1,7 +1,6 @@
 //! A watchdog, held by its owner; each call takes it to the library by value and keeps what comes back.
 
 use crate::answer::Refusal;
-use crate::timer::Advanced;
 use crate::{layout, raw};
 
 /// The watchdog of an ATmega328P. It can only be made by [`Watchdog::new`] and changed by the calls, so the library's one
@@ -27,6 +26,14 @@ pub struct WatchdogState {
     pub latest: u64,
 }
 
+/// How an advance ended, with the bytes written.
+#[derive(Clone, Copy, Debug, PartialEq, Eq)]
+pub enum WatchdogAdvanced {
+    Done { written: usize },
+    /// It stopped before a time-out whose record did not fit: read the area, then advance again.
+    Paused { sync: u64, written: usize },
+}
+
 impl Watchdog {
     /// A watchdog with all bits clear, at cycle 0.
     ///
@@ -44,14 +51,14 @@ impl Watchdog {
     }
 
     /// Time passes up to a cycle, or to the first time-out whose record does not fit the area.
-    pub fn advance(&mut self, cycle: u64, area: &mut [u8]) -> Result<Advanced, Refusal> {
+    pub fn advance(&mut self, cycle: u64, area: &mut [u8]) -> Result<WatchdogAdvanced, Refusal> {
         // SAFETY: the watchdog came from the library and only the library has changed it, so it is valid, here and below; the
         // area is lent for the call alone.
         let report = self.keep(unsafe { raw::paddlemauve_watchdog_advance(self.raw, cycle, raw::Area::of(area)) })?;
         let written = report.written as usize;
         Ok(match report.what {
-            4 => Advanced::Paused { sync: report.value, written },
-            _ => Advanced::Done { written },
+            4 => WatchdogAdvanced::Paused { sync: report.value, written },
+            _ => WatchdogAdvanced::Done { written },
         })
     }
 

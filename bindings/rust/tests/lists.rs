@@ -15,8 +15,8 @@ fn singly(timer: &mut Timer, list: &[Write], area: &mut [u8]) -> Written {
     let mut written = 0;
     for (done, w) in list.iter().enumerate() {
         match timer.advance(w.cycle, &mut area[written..]) {
-            Ok(Advanced::Done { written: more }) => written += more,
-            Ok(Advanced::Paused { sync, written: more }) => {
+            Ok(Advanced::Done { written: more, .. }) => written += more,
+            Ok(Advanced::Paused { sync, written: more, .. }) => {
                 return Written { done, written: written + more, why: Why::Paused(sync) };
             }
             Err(why) => return Written { done, written, why: Why::Refused(why) },

@@ -1,11 +1,11 @@
 //! A watchdog through the library: its modes, the timed sequence, its refusals.
 
-use paddlemauve::{records, Advanced, Event, Record, Refusal, Watchdog};
+use paddlemauve::{records, Event, Record, Refusal, Watchdog, WatchdogAdvanced};
 
 /// The time-outs up to a cycle.
 fn advanced(watchdog: &mut Watchdog, cycle: u64) -> Result<Vec<Record>, Refusal> {
     let mut area = [0xa5; 110];
-    let Advanced::Done { written } = watchdog.advance(cycle, &mut area)? else {
+    let WatchdogAdvanced::Done { written } = watchdog.advance(cycle, &mut area)? else {
         panic!("110 bytes hold eleven time-outs")
     };
     assert!(area[written..].iter().all(|&b| b == 0xa5));
@@ -66,7 +66,7 @@ fn refusals_change_nothing() -> Result<(), Refusal> {
     assert_eq!(watchdog.read(256_000), Err(Refusal::EventDue));
     assert_eq!(watchdog, before);
     let mut area = [0xa5; 9];
-    assert_eq!(watchdog.advance(256_000, &mut area)?, Advanced::Paused { sync: 255_875, written: 0 });
+    assert_eq!(watchdog.advance(256_000, &mut area)?, WatchdogAdvanced::Paused { sync: 255_875, written: 0 });
     assert_eq!(area, [0xa5; 9]);
     Ok(())
 }
