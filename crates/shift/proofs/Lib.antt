@@ -1,0 +1,5 @@
+pub mod Counting
+pub mod Following
+pub mod Late
+pub mod Signs
+pub mod Refusals
