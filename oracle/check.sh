@@ -10,20 +10,12 @@ bin=target/release
 failed=0
 scripts=0
 
-# shown ANSWERS PROGRAM...: the answers as the program shows them; the Rust itself has no odometer
-shown() {
-    case "$2 ${3-}" in
-    "$bin/judge --sheet" | "$bin/plain "*) cat "$1" ;;
-    *) sed 's/ odometer=[0-9]*$//' "$1" ;;
-    esac
-}
-
 # expect SCRIPT ANSWERS PROGRAM...
 expect() {
     script=$1
     answers=$2
     shift 2
-    if [ "$("$@" < "$script")" != "$(shown "$answers" "$@")" ]; then
+    if [ "$("$@" < "$script")" != "$(cat "$answers")" ]; then
         echo "oracle: on $script, $* does not answer $answers" >&2
         failed=1
     fi

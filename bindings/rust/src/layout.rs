@@ -125,7 +125,11 @@ fn watched() -> Result<(), Refusal> {
     watchdog.read(768_401)?;
     watchdog.next(768_402)?;
     assert_eq!(watchdog.state(), WATCHED, "the library's watchdog does not read as ours");
-    assert_eq!(area[..10], [0xc0, 0, 0, 0, 0, 0x0b, 0xb7, 0x83, 0, 1], "the library's record is not that of the reading");
+    assert_eq!(
+        area[..10],
+        [0xc0, 0, 0, 0, 0, 0x0b, 0xb7, 0x83, 0, 1],
+        "the library's record is not that of the reading"
+    );
     assert_eq!(area[10..], [0xa5; 14], "the library wrote past its record");
     Ok(())
 }

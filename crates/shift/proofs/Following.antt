@@ -2,7 +2,7 @@
 use Prim.Native.Nat.{ℕ, suc, _+_, _-_, _%_, _≤_, _<_}
 use native.Mathlib.Omega.{arith}
 use native.Mathlib.Nat.{le-refl}
-use mathlib.Core.Path.{_≡_, refl, sym, ap, _∙_}
+use mathlib.Core.Path.{_≡_, refl, sym, ap, subst, _∙_}
 use mathlib.Core.Bool.{Bool, true, false, cond, not, _&&_, _||_, and-false, true≢false}
 use mathlib.Core.List.{List, [], _∷_}
 use mathlib.Core.Logic.{_⊎_, inl, inr, ⊎-elim}
@@ -173,7 +173,7 @@ module _ (t : Timer) (base : ℕ) (divides : 0 < divisorOf t) (normal : kindAt (
   works-follow x (call.Route level) cycle f e = cond-all (λ (u : Timer). Follows t base (latestTo u cycle)) (x .config .icr .present) (record { config = f .config; tccra = f .tccra; tccrb = f .tccrb; origin = f .origin; free = f .free; count = f .count }) (latest-follows x cycle f)
   works-follow x (call.Sleep mode) cycle f e = rw e (latest-follows x cycle f)
   works-follow x call.Wake cycle f e = cond-case (λ (u : Timer). Follows t base (latestTo u cycle)) (x .halts .asleep) (λ a. absurd (true≢false (rw a at (f .free)))) (λ a. latest-follows x cycle f)
-  works-follow x (call.Reduce mask) cycle f e = rw (← reduces-not x cycle mask e) (latest-follows x cycle f)
+  works-follow x (call.Reduce mask) cycle f e = subst (λ (u : Timer). Follows t base (latestTo u cycle)) (reduces-not x cycle mask e) (latest-follows x cycle f)
   works-follow x (call.Tsm level) cycle f e = rw e (latest-follows x cycle f)
   works-follow x (call.Prescale mask) cycle f e = rw e (latest-follows x cycle f)
   works-follow x call.Reset cycle f e = absurd (true≢false e)

@@ -9,7 +9,6 @@ use lib.Dec.{eqb, leb}
 use lib.ListN.{getD}
 use borrow.Author.Tests.{leb-true, leb-false, eq-eqb, ne-eqb, le-leb}
 use Rattle.wave.specs.declared.kinds.Wave.{Wave}
-use Rattle.wave.specs.declared.distance.Search.{Search}
 use Rattle.wave.specs.Distance.{space, ahead, gapAt, having, compares, lookedAt, soughtAt}
 
 -- ---- what a search begins with

@@ -1,0 +1,3 @@
+pub mod Watch
+pub mod Account
+pub mod Reading
