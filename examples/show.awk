@@ -64,6 +64,7 @@ function words(record, kind, what, high, low, up) {
         what = plural(listed(high, flags, mask), "flag", "flags") " raised, " (up == "" ? "no line up" : plural(up, "line", "lines") " up")
     }
     if (kind == 2) what = "trigger " trigger[int(high / 16)] " of timer " (high % 16 * 16 + int(low / 16))
+    if (kind == 3) what = low == 2 ? "the watchdog resets" : "the watchdog interrupts"
     return "cycle " decimal(digit(record, 1) % 4 substr(record, 2, 15)) ": " what
 }
 
