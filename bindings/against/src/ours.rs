@@ -45,7 +45,10 @@ impl Ours {
     /// The same after an advance, which answers the event's flags too.
     fn told(&self, flags: u8) -> Option<Event> {
         let next = self.next();
-        assert!(self.event_due() || flags == next.map_or(0, |n| n.flags), "an advance answers the flags that next answers");
+        assert!(
+            self.event_due() || flags == next.map_or(0, |n| n.flags),
+            "an advance answers the flags that next answers"
+        );
         next
     }
 

@@ -29,9 +29,14 @@ pub struct WatchdogState {
 /// How an advance ended, with the bytes written.
 #[derive(Clone, Copy, Debug, PartialEq, Eq)]
 pub enum WatchdogAdvanced {
-    Done { written: usize },
+    Done {
+        written: usize,
+    },
     /// It stopped before a time-out whose record did not fit: read the area, then advance again.
-    Paused { sync: u64, written: usize },
+    Paused {
+        sync: u64,
+        written: usize,
+    },
 }
 
 impl Watchdog {

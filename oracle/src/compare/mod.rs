@@ -70,8 +70,9 @@ pub fn clash(lines: &[String], judged: &[Option<String>], bend: Option<Bend>) ->
 
 /// Calls among the lines: all but configurations, `state` and `distance`.
 pub fn calls(lines: &[String]) -> usize {
-    let is_call =
-        |line: &&String| !matches!(read_line(line.as_bytes()), Ok(Some(Command::Config(_) | Command::State | Command::Distance)));
+    let is_call = |line: &&String| {
+        !matches!(read_line(line.as_bytes()), Ok(Some(Command::Config(_) | Command::State | Command::Distance)))
+    };
     lines.iter().filter(is_call).count()
 }
 
