@@ -58,7 +58,6 @@ oracle:
 # The bench program against the Rust, when the oracle is built.
 against-bench: $(BENCH)
 	$(ORACLE)/compare --program $(BENCH) $(CALLS) $(SEED)
-	python3 oracle/sums.py $(BENCH) $(ORACLE)/generate 200 300
 	$(ORACLE)/compare --watchdog $(BENCH) $(CALLS) $(SEED)
 
 library:

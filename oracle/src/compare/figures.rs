@@ -3,10 +3,12 @@
 use std::collections::{BTreeMap, BTreeSet};
 use std::fmt;
 
+use super::account::Account;
 use crate::judge::{Judge, View};
 use crate::script::command::CALLS;
+use crate::script::play::read_line;
 use crate::script::words::Why;
-use crate::script::{presets, Layout};
+use crate::script::{presets, Command, Layout, Side};
 
 /// From here on a cycle is counted as near the last one, 2^62 - 1.
 const NEAR_LAST: u64 = (1 << 62) - (1 << 16);
@@ -42,6 +44,7 @@ pub struct Figures {
     halts: BTreeSet<[bool; 3]>,
     past_event: usize,
     near_last: usize,
+    account: Account,
 }
 
 impl Figures {
@@ -59,6 +62,7 @@ impl Figures {
         if answer == "ok config" {
             *self.timers.entry(kind(&view)).or_default() += 1;
             self.mode = None;
+            self.account.configured();
         }
         if let Some((_, rest)) = answer.split_once("bytes=") {
             let bytes = rest.split(' ').next().and_then(|b| b.parse::<usize>().ok()).unwrap_or_default();
@@ -66,7 +70,19 @@ impl Figures {
             self.most = self.most.max(most_in_a_tick(answer));
             self.paused += answer.starts_with("paused") as usize;
             self.count_accepted(&view);
+            self.count_ticks(line, answer, &view, judge);
         }
+    }
+
+    /// The sums of 2.11, where the judge has an odometer.
+    fn count_ticks(&mut self, line: &str, answer: &str, view: &View, judge: &Judge) {
+        let odometer = judge.state().and_then(|state| state.odometer);
+        let (Ok(Some(Command::Call { call, cycle, .. })), Some(odometer)) = (read_line(line.as_bytes()), odometer)
+        else {
+            return;
+        };
+        let records = answer.rsplit("records=").next().filter(|&hex| hex != "-").unwrap_or_default();
+        self.account.hear(call, cycle, records, view, odometer);
     }
 
     fn count_said(&mut self, name: &str, second: &str, answer: &str) {
@@ -180,10 +196,11 @@ impl fmt::Display for Figures {
             changes(true)
         )?;
         writeln!(f, "sleep, power reduction and TSM together: {} of 8", self.halts.len())?;
-        write!(
+        writeln!(
             f,
             "accepted calls with the event past: {}, within 2^16 of the last cycle: {}",
             self.past_event, self.near_last
-        )
+        )?;
+        write!(f, "sums of ticks that close: {}, the longest over {} ticks", self.account.closed, self.account.ticks)
     }
 }

@@ -1,6 +1,7 @@
 //! The judge and another side over the same random scripts, line by line, with all state after every call. The other
 //! side is the plain counter, or a bench program (`program`).
 
+mod account;
 mod batch;
 pub mod bends;
 pub mod cover;
