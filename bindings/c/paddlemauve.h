@@ -1,4 +1,4 @@
-/* What crates/shell exports, with the timer of crates/counter, its configuration of crates/config, and the watchdog of crates/watchdog, for C
+/* What crates/shell exports, with the timer of crates/counter, its configuration of crates/config, and the watchdog of crates/oscillator, for C
  * and C++ on x86-64. */
 #ifndef PADDLEMAUVE_H
 #define PADDLEMAUVE_H

@@ -1,5 +1,5 @@
 //! What `crates/shell` exports, in C's layout: the configuration of `crates/config`, the timer of `crates/counter`, the
-//! watchdog of `crates/watchdog`, and `asked.rt`, `exports.rt` and `watchdogs.rt`.
+//! watchdog of `crates/oscillator`, and `asked.rt`, `exports.rt` and `watchdogs.rt`.
 
 #[repr(C)]
 #[derive(Clone, Copy, Debug, PartialEq, Eq)]

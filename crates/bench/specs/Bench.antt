@@ -2,7 +2,7 @@
 use Rattle.bench.specs.declared.bench.Bench.{Bench}
 use Rattle.counter.specs.Valid.{Valid}
 use Rattle.scheduler.specs.Scheduler.{Valid as Scheduler·Valid}
-use Rattle.watchdog.specs.State.{Valid as Watchdog·Valid}
+use Rattle.oscillator.specs.State.{Valid as Watchdog·Valid}
 
 -- the premises of the calls
 pub record Sound (b : Bench) : Type 0 where

@@ -2,12 +2,12 @@
 
 use config::Config;
 use counter::state::Timer;
+use oscillator::state::Watchdog;
 use page::Page;
 use page::byte;
 use page::text;
 use page::unreadable;
 use scheduler::Scheduler;
-use watchdog::state::Watchdog;
 ghost use Rattle.bench.specs.Bench.{Sound};
 
 // The timer counts once a configuration was accepted, the watchdog once there is a new one. line is the line's number, held its bytes so far, at the page's.

@@ -5,13 +5,13 @@ use crate::call_lines::FILL;
 use crate::call_lines::changed;
 use crate::wdt_shown::wdt_answer;
 use crate::wdt_shown::wdt_state;
+use oscillator::state::Watchdog;
 use page::Page;
 use page::number;
 use time::units::Cycle;
 use watchdog::call;
 use watchdog::calls::Call;
 use watchdog::outcome::Outcome;
-use watchdog::state::Watchdog;
 use words::Cursor;
 use words::FINE;
 use words::MISSING_WORD;
@@ -27,7 +27,7 @@ use words::place;
 use words::skip;
 ghost use Prim.Native.Nat.{_≤_};
 ghost use Rattle.bench.specs.Bench.{Sound};
-ghost use Rattle.watchdog.specs.State.{Valid};
+ghost use Rattle.oscillator.specs.State.{Valid};
 
 // A call as a line asks for it, with the area's size.
 struct Asked {

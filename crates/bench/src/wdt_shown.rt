@@ -1,16 +1,16 @@
 // What is shown of a watchdog: a call's answer, and the watchdog as it stands.
 
 use display::answer::records;
+use oscillator::next::Next;
+use oscillator::state::Watchdog;
 use page::Page;
 use page::bit;
 use page::number;
 use page::register;
 use page::text;
 use watchdog::outcome::Answer;
-use watchdog::outcome::Next;
 use watchdog::outcome::Outcome;
-use watchdog::state::Watchdog;
-ghost use Rattle.watchdog.specs.State.{Valid};
+ghost use Rattle.oscillator.specs.State.{Valid};
 
 // Puts the next event of the watchdog that a call leaves, and the bytes written.
 fn next(page: &mut Page, from: usize, o: Outcome, area: &[u8]) -> usize

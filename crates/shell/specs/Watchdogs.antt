@@ -3,11 +3,11 @@ use Prim.Native.Nat.{ℕ}
 use mathlib.Core.List.{List}
 use mathlib.Core.Path.{_≡_}
 use Rattle.watchdog.specs.declared.calls.Call.{Call}
-use Rattle.watchdog.specs.declared.outcome.Next.the-variants as next
+use Rattle.oscillator.specs.declared.next.Next.the-variants as next
 use Rattle.watchdog.specs.declared.outcome.Outcome.{Outcome}
-use Rattle.watchdog.specs.declared.state.Watchdog.{Watchdog}
-use Rattle.watchdog.specs.State.{Valid}
-use Rattle.watchdog.specs.Oscillator.{ticks}
+use Rattle.oscillator.specs.declared.state.Watchdog.{Watchdog}
+use Rattle.oscillator.specs.State.{Valid}
+use Rattle.oscillator.specs.Oscillator.{ticks}
 use Rattle.watchdog.specs.Outcome.{Values, refused, none, byte, event, paused, Told, numberOf, valuesOf}
 use Rattle.watchdog.specs.Calls.{answered}
 use Rattle.shell.specs.declared.watchdogs.Report.{Report}

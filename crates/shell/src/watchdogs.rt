@@ -1,15 +1,15 @@
 // The watchdog for Rust and C, by value: the caller holds it, and takes back what each call leaves.
 
+use oscillator::next::Next;
+use oscillator::state::Watchdog;
 use time::units::Cycle;
 use watchdog::calls;
 use watchdog::outcome::Answer;
-use watchdog::outcome::Next;
 use watchdog::outcome::Outcome;
-use watchdog::state::Watchdog;
 ghost use mathlib.Core.Path.{_≡_};
 ghost use Rattle.watchdog.specs.declared.calls.Call.{Call};
-ghost use Rattle.watchdog.specs.State.{fresh, Valid};
-ghost use Rattle.watchdog.specs.Oscillator.{ticks};
+ghost use Rattle.oscillator.specs.State.{fresh, Valid};
+ghost use Rattle.oscillator.specs.Oscillator.{ticks};
 ghost use Rattle.watchdog.specs.Outcome.{numberOf, valuesOf};
 ghost use Rattle.watchdog.specs.Calls.{answered};
 ghost use Rattle.shell.specs.Watchdogs.{reportOf, watchedOf, Reports, Reported};

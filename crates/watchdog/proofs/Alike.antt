@@ -5,15 +5,15 @@ use mathlib.Core.Bool.{Bool, true}
 use mathlib.Core.List.{List, [], _∷_}
 use lib.Dec.{leb, leb·zero}
 use lib.ListN.{length}
+use Rattle.oscillator.specs.declared.state.Watchdog.{Watchdog}
+use Rattle.oscillator.specs.State.{fresh}
+use Rattle.oscillator.specs.Oscillator.{ticks, timeouts, due, start, runOf, synced}
+use Rattle.oscillator.proofs.Runs.{timeouts-are-ticks}
 use Rattle.watchdog.specs.declared.calls.Call.{Call}
 use Rattle.watchdog.specs.declared.calls.Call.the-variants as call
-use Rattle.watchdog.specs.declared.state.Watchdog.{Watchdog}
-use Rattle.watchdog.specs.State.{fresh}
-use Rattle.watchdog.specs.Oscillator.{ticks, timeouts, due, start, runOf, synced}
 use Rattle.watchdog.specs.Outcome.{Told}
 use Rattle.watchdog.specs.Calls.{performed, answered}
 use Rattle.watchdog.specs.Claims.{Request, told, outcomes, last, Same, Alike, History, nothing, called, CodeIsRun}
-use Rattle.watchdog.proofs.Runs.{timeouts-are-ticks}
 
 runs-alike : (w : Watchdog) (cycle : ℕ) (fits : ℕ → Bool) → fits 0 ≡ true → runOf timeouts w cycle fits ≡ runOf ticks w cycle fits
 unfolding runOf start

@@ -10,20 +10,23 @@ use lib.ListN.{length}
 use borrow.Author.Tests.{leb-false, ltb-true, ltb-false, eqb-true, eqb-false}
 use Rattle.time.specs.Units.{lateAt, ticksAt}
 use Rattle.time.proofs.Clocks.{ticks-mono, cycle-mono, tick-before}
+use Rattle.wdtcsr.specs.declared.state.Moving.{Moving}
+use Rattle.wdtcsr.specs.declared.state.Window.{Window}
+use Rattle.wdtcsr.specs.State.{running, Sound}
+use Rattle.wdtcsr.specs.Timeouts.{periodOf, resets, timedOut, Step, tick, linear}
+use Rattle.wdtcsr.specs.Wdtcsr.{bitAt, wantedP, takes, tooLong, controlTo, windowTo, stoppedAt, written, rewound, served}
+use Rattle.wdtcsr.proofs.Ticks.{cond-case}
+use Rattle.wdtcsr.proofs.Bounds.{period-at, timed-out-sound}
+use Rattle.oscillator.specs.declared.state.Watchdog.{Watchdog}
+use Rattle.oscillator.specs.State.{fresh, movingTo, acceptedAt, Valid}
+use Rattle.oscillator.specs.Oscillator.{oscillator, Run, one, ticks, due, start, syncOf, passed, runOf, synced, isDue}
+use Rattle.oscillator.proofs.Runs.{one-all}
+use Rattle.oscillator.proofs.Syncs.{synced-is}
 use Rattle.watchdog.specs.declared.calls.Call.{Call}
 use Rattle.watchdog.specs.declared.calls.Call.the-variants as call
-use Rattle.watchdog.specs.declared.state.Moving.{Moving}
-use Rattle.watchdog.specs.declared.state.Window.{Window}
-use Rattle.watchdog.specs.declared.state.Watchdog.{Watchdog}
-use Rattle.watchdog.specs.State.{fresh, movingTo, acceptedAt, running, Sound, Valid}
-use Rattle.watchdog.specs.Oscillator.{oscillator, periodOf, resets, timedOut, Step, tick, Run, one, ticks, linear, due, start, syncOf, passed, runOf, synced, isDue}
-use Rattle.watchdog.specs.Wdtcsr.{bitAt, wantedP, takes, tooLong, controlTo, windowTo, stoppedAt, written, rewound, served}
 use Rattle.watchdog.specs.Outcome.{Told}
 use Rattle.watchdog.specs.Calls.{early, refusalOf, moved, performed, answered}
 use Rattle.watchdog.specs.Claims.{Request, told, last, Kept}
-use Rattle.watchdog.proofs.Runs.{cond-case, one-all}
-use Rattle.watchdog.proofs.Bounds.{period-at, timed-out-sound}
-use Rattle.watchdog.proofs.Syncs.{synced-is}
 
 -- ---- the oscillator
 
@@ -219,15 +222,6 @@ call-keeps w q v =
     cond-case (λ (x : Told). Valid (x .watchdog)) (eqb (refusalOf w (q .call) (q .cycle)) 0)
     (λ e. performed-valid w (q .call) (q .cycle) (q .area) v (eqb-true _ 0 e))
     (λ e. v)
-
-pub fresh-is-valid : Valid fresh
-fresh-is-valid =
-    record {
-      sound = record { count = omega arith; wdp = omega arith; stopped = λ e. refl };
-      since = omega arith;
-      sync = omega arith;
-      latest = omega arith;
-    }
 
 -- so every watchdog that the calls give is valid
 pub last-valid : (w : Watchdog) (qs : List Request) → Valid w → Valid (last ticks w qs)

@@ -1,9 +1,4 @@
-pub mod Runs
-pub mod Bounds
-pub mod Loop
-pub mod Syncs
 pub mod Keeps
-pub mod Advances
 pub mod Outcomes
 pub mod Alike
 pub mod Quiet

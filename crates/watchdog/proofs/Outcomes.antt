@@ -6,38 +6,23 @@ use mathlib.Core.List.{List}
 use lib.Dec.{leb}
 use borrow.Author.Tests.{ne-eqb}
 use Rattle.time.specs.declared.units.Cycle.{Cycle}
+use Rattle.wdtcsr.specs.State.{running}
+use Rattle.wdtcsr.specs.Wdtcsr.{tooLong}
+use Rattle.oscillator.specs.declared.passing.Advanced.{Advanced}
+use Rattle.oscillator.specs.declared.next.Next.the-variants.{At, Never}
+use Rattle.oscillator.specs.declared.state.Watchdog.{Watchdog}
+use Rattle.oscillator.specs.State.{acceptedAt, Valid}
+use Rattle.oscillator.specs.Oscillator.{ticks, nextAt, nextOf, isDue, Advances}
 use Rattle.watchdog.specs.declared.calls.Call.{Call}
 use Rattle.watchdog.specs.declared.calls.Call.the-variants as call
-use Rattle.watchdog.specs.declared.oscillator.Advanced.{Advanced}
 use Rattle.watchdog.specs.declared.outcome.Answer.{Answer}
 use Rattle.watchdog.specs.declared.outcome.Answer.the-variants as answer
-use Rattle.watchdog.specs.declared.outcome.Next.the-variants.{At, Never}
 use Rattle.watchdog.specs.declared.outcome.Outcome.{Outcome}
-use Rattle.watchdog.specs.declared.state.Watchdog.{Watchdog}
-use Rattle.watchdog.specs.State.{acceptedAt, running, Valid}
-use Rattle.watchdog.specs.Oscillator.{ticks, nextAt, nextOf, isDue, Advances}
-use Rattle.watchdog.specs.Wdtcsr.{tooLong}
 use Rattle.watchdog.specs.Outcome.{Told, given, numberOf, valuesOf, heard, Tells}
 use Rattle.watchdog.specs.Calls.{late, early, refusalOf, moved, performed, answered}
 use Rattle.watchdog.proofs.Keeps.{call-keeps}
 
 -- ---- the next event
-pub event-due : (w : Watchdog) (cycle : ℕ) {at : Cycle} → At at ≡ nextOf w → leb (at .0) cycle ≡ isDue w cycle
-unfolding nextOf isDue
-event-due w cycle {at} e = go (running (w .moving)) e
-  where
-    go : (b : Bool) → At at ≡ cond b (At (record { 0 = nextAt w })) Never → leb (at .0) cycle ≡ b && leb (nextAt w) cycle
-    go true h = let z : at ≡ record { 0 = nextAt w } = cc in rw z
-    go false h = cc
-
-pub never-due : (w : Watchdog) (cycle : ℕ) → Never ≡ nextOf w → false ≡ isDue w cycle
-unfolding nextOf isDue
-never-due w cycle e = go (running (w .moving)) e
-  where
-    go : (b : Bool) → Never ≡ cond b (At (record { 0 = nextAt w })) Never → false ≡ b && leb (nextAt w) cycle
-    go true h = cc
-    go false h = refl
-
 -- ---- a write's refusals
 pub early-refused : (w : Watchdog) (value cycle : ℕ) {n : ℕ} → n ≡ early w cycle → (n ≡ 0 → ⊥) → n ≡ refusalOf w (call.Write value) cycle
 unfolding refusalOf

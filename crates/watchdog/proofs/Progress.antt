@@ -12,15 +12,17 @@ use Rattle.records.specs.Records.{recordOf}
 use Rattle.records.proofs.Records.{record-length}
 use Rattle.time.specs.Units.{ticksAt}
 use Rattle.time.proofs.Clocks.{cycle-mono}
+use Rattle.wdtcsr.specs.State.{running}
+use Rattle.wdtcsr.specs.Timeouts.{timedOut, timeout, gapOf}
+use Rattle.wdtcsr.proofs.Ticks.{cond-case, quiet-to-gap}
+use Rattle.oscillator.specs.declared.state.Watchdog.{Watchdog}
+use Rattle.oscillator.specs.Oscillator.{oscillator, Run, one, ticks, quiet, due, start, syncOf, passed, runOf, nextAt}
+use Rattle.oscillator.proofs.Runs.{one-all, ticks-add, quiet-ticks}
+use Rattle.oscillator.proofs.Loop.{one-loud}
+use Rattle.oscillator.proofs.Syncs.{gap-due}
 use Rattle.watchdog.specs.declared.calls.Call.the-variants as call
-use Rattle.watchdog.specs.declared.state.Watchdog.{Watchdog}
-use Rattle.watchdog.specs.State.{running}
-use Rattle.watchdog.specs.Oscillator.{oscillator, timedOut, timeout, Run, one, ticks, gapOf, quiet, due, start, syncOf, passed, runOf, nextAt}
 use Rattle.watchdog.specs.Calls.{refusalOf, moved, performed, answered}
 use Rattle.watchdog.specs.Claims.{told, Works, Progress}
-use Rattle.watchdog.proofs.Runs.{cond-case, one-all, ticks-add, quiet-ticks, quiet-to-gap}
-use Rattle.watchdog.proofs.Loop.{one-loud}
-use Rattle.watchdog.proofs.Syncs.{gap-due}
 use Rattle.watchdog.proofs.Quiet.{announced}
 
 -- a run never goes back, and keeps its first bytes

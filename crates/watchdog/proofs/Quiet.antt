@@ -5,13 +5,14 @@ use mathlib.Core.Path.{_≡_, refl, _∙_}
 use mathlib.Core.Bool.{Bool, true, false, cond}
 use borrow.Author.Tests.{le-leb}
 use Rattle.time.specs.declared.units.Cycle.{Cycle}
-use Rattle.watchdog.specs.declared.outcome.Next.the-variants.{At, Never}
-use Rattle.watchdog.specs.declared.state.Watchdog.{Watchdog}
-use Rattle.watchdog.specs.State.{running}
-use Rattle.watchdog.specs.Oscillator.{linear, gapOf, quiet, start, nextAt, nextOf}
+use Rattle.wdtcsr.specs.State.{running}
+use Rattle.wdtcsr.specs.Timeouts.{linear, gapOf}
+use Rattle.oscillator.specs.declared.next.Next.the-variants.{At, Never}
+use Rattle.oscillator.specs.declared.state.Watchdog.{Watchdog}
+use Rattle.oscillator.specs.Oscillator.{quiet, start, nextAt, nextOf}
+use Rattle.oscillator.proofs.Runs.{quiet-ticks}
+use Rattle.oscillator.proofs.Syncs.{before-next}
 use Rattle.watchdog.specs.Claims.{OnlyCounts, Quiet}
-use Rattle.watchdog.proofs.Runs.{quiet-ticks}
-use Rattle.watchdog.proofs.Syncs.{before-next}
 
 -- an announced event says that it runs, and when
 pub announced : (w : Watchdog) (next : Cycle) → nextOf w ≡ At next → (running (w .moving) ≡ true) × (next .0 ≡ nextAt w)

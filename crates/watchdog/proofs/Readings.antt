@@ -4,10 +4,11 @@ use mathlib.Core.List.{List, [], _∷_}
 use lib.ListN.{replicate}
 use Rattle.records.specs.Records.{bytesOf, recordOf, recordsOf}
 use Rattle.time.specs.Units.{ticksAt, cycleAt}
-use Rattle.watchdog.specs.declared.state.Watchdog.{Watchdog}
-use Rattle.watchdog.specs.State.{fresh}
-use Rattle.watchdog.specs.Oscillator.{periodOf, timedOut, timeout, tick, one, ticks, linear, gapOf, quiet, skips, timeouts, due, start, syncOf, passed, runOf, synced, nextAt, nextOf, isDue}
-use Rattle.watchdog.specs.Wdtcsr.{isOpen, valueOf, takes, tooLong, controlTo, windowTo, stoppedAt, written, served}
+use Rattle.wdtcsr.specs.Timeouts.{periodOf, timedOut, timeout, tick, linear, gapOf}
+use Rattle.wdtcsr.specs.Wdtcsr.{isOpen, valueOf, takes, tooLong, controlTo, windowTo, stoppedAt, written, served}
+use Rattle.oscillator.specs.declared.state.Watchdog.{Watchdog}
+use Rattle.oscillator.specs.State.{fresh}
+use Rattle.oscillator.specs.Oscillator.{one, ticks, quiet, skips, timeouts, due, start, syncOf, passed, runOf, synced, nextAt, nextOf, isDue}
 use Rattle.watchdog.specs.Calls.{early, refusalOf, moved, performed, answered}
 use Rattle.watchdog.specs.Readings.{Step, played, readings, replayed, Readings}
 use Rattle.watchdog.proofs.Alike.{told-alike}

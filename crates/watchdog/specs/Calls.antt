@@ -5,14 +5,14 @@ use mathlib.Core.List.{List, _++_}
 use lib.Dec.{eqb, leb}
 use lib.ListN.{length, drop}
 use Rattle.time.specs.Units.{lateAt}
+use Rattle.wdtcsr.specs.declared.state.Moving.{Moving}
+use Rattle.wdtcsr.specs.Wdtcsr.{valueOf, tooLong, written, rewound, served}
+use Rattle.oscillator.specs.declared.state.Watchdog.{Watchdog}
+use Rattle.oscillator.specs.State.{movingTo}
+use Rattle.oscillator.specs.Oscillator.{Run, Passage, ticks, passed, runOf, synced, nextOf, isDue}
 use Rattle.watchdog.specs.declared.calls.Call.{Call}
 use Rattle.watchdog.specs.declared.calls.Call.the-variants as call
 use Rattle.watchdog.specs.declared.outcome.Outcome.{Outcome}
-use Rattle.watchdog.specs.declared.state.Moving.{Moving}
-use Rattle.watchdog.specs.declared.state.Watchdog.{Watchdog}
-use Rattle.watchdog.specs.State.{movingTo}
-use Rattle.watchdog.specs.Oscillator.{Run, Passage, ticks, passed, runOf, synced, nextOf, isDue}
-use Rattle.watchdog.specs.Wdtcsr.{valueOf, tooLong, written, rewound, served}
 use Rattle.watchdog.specs.Outcome.{none, byte, event, paused, Told, turned, given, Tells}
 
 -- ---- refusals: "01's numbers 2, 3 and 6 stand here too"

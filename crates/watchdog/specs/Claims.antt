@@ -7,13 +7,14 @@ use lib.ListN.{length, take}
 use Rattle.records.specs.Records.{recordOf}
 use Rattle.time.specs.declared.units.Cycle.{Cycle}
 use Rattle.time.specs.Units.{ticksAt, cycleAt}
+use Rattle.wdtcsr.specs.Timeouts.{countTo, timeout}
+use Rattle.oscillator.specs.declared.next.Next.the-variants.{At, Never}
+use Rattle.oscillator.specs.declared.state.Watchdog.{Watchdog}
+use Rattle.oscillator.specs.State.{fresh, Valid}
+use Rattle.oscillator.specs.Oscillator.{oscillator, Passage, ticks, timeouts, start, nextOf}
 use Rattle.watchdog.specs.declared.calls.Call.{Call}
 use Rattle.watchdog.specs.declared.calls.Call.the-variants as call
-use Rattle.watchdog.specs.declared.outcome.Next.the-variants.{At, Never}
 use Rattle.watchdog.specs.declared.outcome.Outcome.{Outcome}
-use Rattle.watchdog.specs.declared.state.Watchdog.{Watchdog}
-use Rattle.watchdog.specs.State.{fresh, Valid}
-use Rattle.watchdog.specs.Oscillator.{oscillator, countTo, timeout, Passage, ticks, timeouts, start, nextOf}
 use Rattle.watchdog.specs.Outcome.{Told, Tells, heard}
 use Rattle.watchdog.specs.Calls.{refusalOf, answered}
 

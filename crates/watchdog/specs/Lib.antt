@@ -1,6 +1,3 @@
-pub mod State
-pub mod Oscillator
-pub mod Wdtcsr
 pub mod Outcome
 pub mod Calls
 pub mod Claims

@@ -2,12 +2,12 @@
 use Prim.Native.Nat.{ℕ}
 use mathlib.Core.List.{List}
 use mathlib.Core.Path.{_≡_}
+use Rattle.oscillator.specs.declared.next.Next.{Next}
+use Rattle.oscillator.specs.declared.state.Watchdog.{Watchdog}
+use Rattle.oscillator.specs.State.{acceptedAt, Valid}
 use Rattle.watchdog.specs.declared.outcome.Answer.{Answer}
 use Rattle.watchdog.specs.declared.outcome.Answer.the-variants as answer
-use Rattle.watchdog.specs.declared.outcome.Next.{Next}
 use Rattle.watchdog.specs.declared.outcome.Outcome.{Outcome}
-use Rattle.watchdog.specs.declared.state.Watchdog.{Watchdog}
-use Rattle.watchdog.specs.State.{acceptedAt, Valid}
 
 -- the values that a call answers; a refusal has none of them
 pub data Values : Type 0 where

@@ -3,12 +3,12 @@ use Prim.Native.Nat.{ℕ}
 use mathlib.Core.List.{List, [], _∷_}
 use mathlib.Core.Path.{_≡_}
 use lib.ListN.{take, replicate}
+use Rattle.oscillator.specs.declared.next.Next.the-variants as next
+use Rattle.oscillator.specs.declared.state.Watchdog.{Watchdog}
+use Rattle.oscillator.specs.State.{fresh}
+use Rattle.oscillator.specs.Oscillator.{Passage, ticks}
 use Rattle.watchdog.specs.declared.calls.Call.{Call}
 use Rattle.watchdog.specs.declared.calls.Call.the-variants.{Advance, Next, Wdr, Serve, Read, Write}
-use Rattle.watchdog.specs.declared.outcome.Next.the-variants as next
-use Rattle.watchdog.specs.declared.state.Watchdog.{Watchdog}
-use Rattle.watchdog.specs.State.{fresh}
-use Rattle.watchdog.specs.Oscillator.{Passage, ticks}
 use Rattle.watchdog.specs.Outcome.{Values, refused, none, byte, event, paused, Told}
 use Rattle.watchdog.specs.Calls.{answered}
 

@@ -4,11 +4,11 @@ use crate::outcome::Answer;
 use crate::outcome::Outcome;
 use crate::outcome::done;
 use crate::outcome::refused;
-use crate::state::Watchdog;
+use oscillator::state::Watchdog;
 use time::units::Cycle;
 ghost use mathlib.Core.Path.{_≡_};
-ghost use Rattle.watchdog.specs.State.{Valid};
-ghost use Rattle.watchdog.specs.Oscillator.{ticks};
+ghost use Rattle.oscillator.specs.State.{Valid};
+ghost use Rattle.oscillator.specs.Oscillator.{ticks};
 ghost use Rattle.watchdog.specs.Outcome.{Tells};
 ghost use Rattle.watchdog.specs.Calls.{early, answered, Answers};
 

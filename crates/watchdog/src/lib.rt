@@ -1,10 +1,7 @@
 // The watchdog beside the timers: the count of its own oscillator, its time-outs, and WDTCSR.
 
 pub mod calls;
-pub mod oscillator;
 pub mod outcome;
-pub mod state;
-pub mod wdtcsr;
 
 use calls::Call;
 use calls::advance;
@@ -13,11 +10,11 @@ use calls::read;
 use calls::serve;
 use calls::wdr;
 use calls::write;
+use oscillator::state::Watchdog;
 use outcome::Outcome;
-use state::Watchdog;
 use time::units::Cycle;
-ghost use Rattle.watchdog.specs.State.{Valid};
-ghost use Rattle.watchdog.specs.Oscillator.{ticks};
+ghost use Rattle.oscillator.specs.State.{Valid};
+ghost use Rattle.oscillator.specs.Oscillator.{ticks};
 ghost use Rattle.watchdog.specs.Outcome.{Tells};
 ghost use Rattle.watchdog.specs.Calls.{answered};
 

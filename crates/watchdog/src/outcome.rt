@@ -1,15 +1,10 @@
 // What a call answers.
 
-use crate::state::Watchdog;
+use oscillator::next::Next;
+use oscillator::state::Watchdog;
 use time::units::Cycle;
 ghost use mathlib.Core.Path.{_≡_};
-ghost use Rattle.watchdog.specs.State.{acceptedAt};
-
-// The next event's cycle, or none while the watchdog is stopped.
-pub enum Next {
-    At(Cycle),
-    Never,
-}
+ghost use Rattle.oscillator.specs.State.{acceptedAt};
 
 // A refusal's number; or done, WDTCSR as read, the next event, or the sync cycle of an advance that stopped.
 pub enum Answer {

@@ -1,0 +1,4 @@
+pub mod Runs
+pub mod Loop
+pub mod Syncs
+pub mod Advances
