@@ -3,8 +3,10 @@
 pub mod volts;
 
 ghost use mathlib.Core.Path.{_≡_};
-ghost use Prim.Native.Nat.{_<_, _≤_, min};
-ghost use lib.ListN.{length};
+ghost use Prim.Native.Nat.{_+_, _*_, _<_, _≤_, _%_, min};
+ghost use lib.ListN.{length, drop};
+ghost use Rattle.words.specs.Words.{sought, firstFrom, findOf, skipOf, words, exactlyOf, placeOf, splitOf};
+ghost use Rattle.words.specs.Numbers.{digitOf, unreadOf, longerOf, numeralOf, nothingOf, nextOf};
 
 // Why a line cannot be read; FINE where it can.
 pub const FINE: u8 = 0;
@@ -51,7 +53,7 @@ pub struct Pair {
 
 // The first place from one on that holds a byte, or where another is wanted holds another, else the text's end.
 fn seek(text: &[u8], from: usize, byte: u8, another: bool) -> usize
-    ensures { λ r. ⌜ (min from (length (now (text .entry))) ≤ r) × (r ≤ length (now (text .entry))) ⌝ }
+    ensures { λ r. ⌜ (min from (length (now (text .entry))) ≤ r) × (r ≤ length (now (text .entry))) × (r ≡ firstFrom (sought byte another) (now (text .entry)) from) ⌝ }
 {
     let mut i = from;
     while i < text.len() {
@@ -65,20 +67,22 @@ fn seek(text: &[u8], from: usize, byte: u8, another: bool) -> usize
 
 // The first place from one on that holds a byte, else the text's end.
 pub fn find(text: &[u8], from: usize, byte: u8) -> usize
-    ensures { λ r. ⌜ (min from (length (now (text .entry))) ≤ r) × (r ≤ length (now (text .entry))) ⌝ }
+    ensures { λ r. ⌜ (min from (length (now (text .entry))) ≤ r) × (r ≤ length (now (text .entry))) × (r ≡ findOf (now (text .entry)) from byte) ⌝ }
 {
     seek(text, from, byte, false)
 }
 
 // The first place from one on that holds no space, else the text's end.
 pub fn skip(text: &[u8], from: usize) -> usize
-    ensures { λ r. ⌜ (min from (length (now (text .entry))) ≤ r) × (r ≤ length (now (text .entry))) ⌝ }
+    ensures { λ r. ⌜ (min from (length (now (text .entry))) ≤ r) × (r ≤ length (now (text .entry))) × (r ≡ skipOf (now (text .entry)) from) ⌝ }
 {
     seek(text, from, b' ', true)
 }
 
 // How many words stand from a place on.
-fn count(text: &[u8], from: usize) -> usize {
+fn count(text: &[u8], from: usize) -> usize
+    ensures { λ r. ⌜ r ≡ length (words (drop from (now (text .entry)))) ⌝ }
+{
     let mut n = 0;
     let mut at = skip(text, from);
     while at < text.len() {
@@ -89,7 +93,9 @@ fn count(text: &[u8], from: usize) -> usize {
 }
 
 // Stops where not as many words are left as wanted.
-pub fn exactly(text: &[u8], at: usize, wanted: usize) -> Cursor {
+pub fn exactly(text: &[u8], at: usize, wanted: usize) -> Cursor
+    ensures { λ r. ⌜ r ≡ exactlyOf (now (text .entry)) at wanted ⌝ }
+{
     let n = count(text, at);
     if n < wanted {
         return Cursor {
@@ -107,9 +113,11 @@ pub fn exactly(text: &[u8], at: usize, wanted: usize) -> Cursor {
 }
 
 // A word's place in a list of names, which are apart by spaces; as many as there are where it is none of them.
-pub fn place(names: &[u8], word: &[u8]) -> usize {
+pub fn place(names: &[u8], word: &[u8]) -> usize
+    ensures { λ r. ⌜ r ≡ placeOf (now (names .entry)) (now (word .entry)) ⌝ }
+{
     let mut n = 0;
-    let mut at = 0;
+    let mut at = skip(names, 0);
     while at < names.len() {
         let end = find(names, at + 1, b' ');
         if check::same(&names[at..end], word) {
@@ -123,7 +131,7 @@ pub fn place(names: &[u8], word: &[u8]) -> usize {
 
 // Splits KEY=VALUE; the key's place is past any list where there is no such sign.
 pub fn split(names: &[u8], word: &[u8]) -> Pair
-    ensures { λ r. ⌜ r .value ≤ length (now (word .entry)) ⌝ }
+    ensures { λ r. ⌜ (r .value ≤ length (now (word .entry))) × (r ≡ splitOf (now (names .entry)) (now (word .entry))) ⌝ }
 {
     let sign = find(word, 0, b'=');
     if sign == word.len() {
@@ -139,7 +147,9 @@ pub fn split(names: &[u8], word: &[u8]) -> Pair
 }
 
 // The value of a digit, 16 where it is none.
-fn digit(b: u8) -> u64 {
+fn digit(b: u8) -> u64
+    ensures { λ r. ⌜ r ≡ digitOf b ⌝ }
+{
     match b {
         b'0'..=b'9' => (b - b'0') as u64,
         b'A'..=b'F' => (b - b'A') as u64 + 10,
@@ -150,7 +160,7 @@ fn digit(b: u8) -> u64 {
 
 // A word that cannot be read.
 pub fn unread(why: u8) -> Read
-    ensures { λ r. ⌜ r .value ≡ 0 ⌝ }
+    ensures { λ r. ⌜ (r .value ≡ 0) × (r ≡ unreadOf why) ⌝ }
 {
     Read { value: 0, why }
 }
@@ -158,25 +168,26 @@ pub fn unread(why: u8) -> Read
 // A number with one more digit, too large once it exceeds the most.
 fn longer(r: Read, d: u64, radix: u64, most: u64) -> Read
     requires { ⌜ 0 < radix ⌝ }
-    ensures { λ r. ⌜ r .value ≤ most ⌝ }
+    ensures { λ s. ⌜ s ≡ longerOf r d radix most ⌝ }
 {
-    if r.why == FINE {
-        if d <= most {
-            if r.value <= (most - d) / radix {
-                return Read {
-                    value: r.value * radix + d,
-                    why: FINE,
-                };
-            }
-        }
+    if r.why != FINE {
+        return unread(TOO_LARGE);
     }
-    unread(TOO_LARGE)
+    if most < d {
+        return unread(TOO_LARGE);
+    }
+    if (most - d) / radix < r.value {
+        return unread(TOO_LARGE);
+    }
+    Read {
+        value: r.value * radix + d,
+        why: FINE,
+    }
 }
 
 // A word as a number in a radix, at most as large as told.
 pub fn numeral(word: &[u8], radix: u64, most: u64) -> Read
-    requires { ⌜ 0 < radix ⌝ }
-    ensures { λ r. ⌜ r .value ≤ most ⌝ }
+    ensures { λ r. ⌜ (r .value ≤ most) × (r ≡ numeralOf (now (word .entry)) radix most) ⌝ }
 {
     if word.len() == 0 {
         return unread(MALFORMED);
@@ -196,15 +207,14 @@ pub fn numeral(word: &[u8], radix: u64, most: u64) -> Read
 
 // Nothing is read.
 pub fn none(c: Cursor) -> Taken
-    ensures { λ r. ⌜ r .value ≡ 0 ⌝ }
+    ensures { λ r. ⌜ (r .value ≡ 0) × (r ≡ nothingOf c) ⌝ }
 {
     Taken { value: 0, next: c }
 }
 
 // The next word as a number.
 fn next(text: &[u8], c: Cursor, radix: u64, most: u64) -> Taken
-    requires { ⌜ 0 < radix ⌝ }
-    ensures { λ r. ⌜ r .value ≤ most ⌝ }
+    ensures { λ r. ⌜ (r .value ≤ most) × (r ≡ nextOf (now (text .entry)) c radix most) ⌝ }
 {
     if c.why != FINE {
         return none(c);
@@ -224,24 +234,28 @@ fn next(text: &[u8], c: Cursor, radix: u64, most: u64) -> Taken
 
 // The next word as a decimal number.
 pub fn decimal(text: &[u8], c: Cursor, most: u64) -> Taken
-    ensures { λ r. ⌜ r .value ≤ most ⌝ }
+    ensures { λ r. ⌜ (r .value ≤ most) × (r ≡ nextOf (now (text .entry)) c 10 most) ⌝ }
 {
     next(text, c, 10, most)
 }
 
 // The next word as a hexadecimal number.
 pub fn hexadecimal(text: &[u8], c: Cursor, most: u64) -> Taken
-    ensures { λ r. ⌜ r .value ≤ most ⌝ }
+    ensures { λ r. ⌜ (r .value ≤ most) × (r ≡ nextOf (now (text .entry)) c 16 most) ⌝ }
 {
     next(text, c, 16, most)
 }
 
 // A number's lowest eight bits.
-pub fn low8(n: u64) -> u8 {
+pub fn low8(n: u64) -> u8
+    ensures { λ r. ⌜ r ≡ n % 256 ⌝ }
+{
     (n % 256) as u8
 }
 
 // A number's lowest sixteen bits.
-pub fn low16(n: u64) -> u16 {
+pub fn low16(n: u64) -> u16
+    ensures { λ r. ⌜ r ≡ n % 65536 ⌝ }
+{
     (n % 65536) as u16
 }
