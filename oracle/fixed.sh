@@ -33,7 +33,7 @@ repeat() {
 }
 
 no_timer() {
-    printf '# ==== before any timer\nstate\nnext 0 110\nadvance 18446744073709551615 0\nread 46 0 110\n'
+    printf '# ==== before any timer\nstate\nnext 0 110\nadvance 18446744073709551615 0\nread 46 0 110\nshift 0 1\n'
 }
 
 readings() {

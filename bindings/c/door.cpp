@@ -19,6 +19,8 @@ public:
         return reply;
     }
 
+    pm_shifted shift(uint64_t first, uint64_t second) const { return paddlemauve_shift(begun.timer, first, second); }
+
     std::vector<pm_record> records;
 
 private:
@@ -36,6 +38,11 @@ static void hold()
     const pm_record &captured = timer.records[0];
     assert(captured.kind == PM_FLAGS && captured.cycle == 16000000 && captured.flags == 0x20 && captured.lines == 0);
     assert(timer.records[1].trigger == PM_CAPTURE && timer.records[1].id == 1);
+
+    // A worn contact, a tenth of a second late, would have been captured 1,562 counts on.
+    assert(timer.shift(16000000, 17600000).ticks == 1562);
+    assert(timer.shift(17600000, 16000000).ticks == -1562);
+    assert(timer.shift(16000000, 49553408).number == PM_TOO_FAR_APART);
 
     // The close, after a read that came too early.
     assert(timer.call(PM_READ, 48000000, 0x84).number == PM_EVENT_DUE);

@@ -49,6 +49,7 @@ enum pm_refusal {
     PM_AREA_TOO_SMALL,       /* lend PM_AREA bytes */
     PM_LIST_LENGTH = 12,     /* a list of writes has PM_WRITE_BYTES an item */
     PM_PERIOD = 17,          /* a watchdog's prescaler is 0 to 9 */
+    PM_TOO_FAR_APART,        /* two edges 32,767 ticks or more apart: ask for nearer ones, or divide the way */
     PM_NO_CALL = 255         /* the kind is no enum pm_kind */
 };
 
@@ -72,6 +73,10 @@ struct pm_reply { uint8_t number, what, flags; uint64_t value, written; };
 /* ticks: to the next event's, from the timer's last; flags: the TIFR bits that its tick will raise; looked: the compares looked at to know it. */
 struct pm_distance { uint32_t ticks; uint8_t flags, looked; };
 
+/* number: 0, or an enum pm_refusal beside no ticks; ticks: how many later an edge at the second cycle is captured than one at the first, negative
+ * where the second comes first, 0 where the counter does not run. */
+struct pm_shifted { uint8_t number; int32_t ticks; };
+
 struct pm_area { uint8_t *start; size_t length; };
 struct pm_list { const uint8_t *start; size_t length; };
 struct pm_shape { uint64_t size, align; };
@@ -83,6 +88,7 @@ struct pm_ended { struct pm_timer timer; uint64_t done; struct pm_reply reply; }
 struct pm_shape paddlemauve_shape(void);
 struct pm_begun paddlemauve_start(struct pm_config config);
 struct pm_distance paddlemauve_distance(struct pm_timer timer);
+struct pm_shifted paddlemauve_shift(struct pm_timer timer, uint64_t first, uint64_t second);
 struct pm_reply paddlemauve_call(struct pm_timer *timer, struct pm_asked asked, struct pm_area area);
 struct pm_ended paddlemauve_writes(struct pm_timer timer, struct pm_list list, struct pm_area area);
 

@@ -23,6 +23,7 @@ struct Figures {
     /// Calls after which the event is past, where `next` is refused and so cannot be compared.
     due: usize,
     configs: usize,
+    shifts: usize,
 }
 
 fn main() {
@@ -41,9 +42,9 @@ fn main() {
         }
         seed += 1;
     }
-    let Figures { calls, refused, paused, due, configs } = figures;
+    let Figures { calls, refused, paused, due, configs, shifts } = figures;
     println!("{calls} calls on {configs} timers in {} scripts from seed {first}: no disagreement", seed - first);
-    println!("{refused} refused, {paused} paused, {due} with the event past");
+    println!("{refused} refused, {paused} paused, {due} with the event past; {shifts} shifts");
 }
 
 /// Both sides over one script; the first line on which they differ.
@@ -61,6 +62,10 @@ fn script(lines: &[String], figures: &mut Figures) -> Result<(), String> {
                 same(n, line, &theirs, &mine)?;
                 same(n, line, &judge.state(), &ours.state())?;
                 same(n, line, &judge.distance(), &ours.distance())?;
+            }
+            Ok(Some(Command::Shift { first, second })) => {
+                same(n, line, &judge.shift(first, second), &ours.shift(first, second))?;
+                figures.shifts += 1;
             }
             // `state` and `distance` are compared after every call; pins and the scheduler are not the timer's.
             _ => (),

@@ -68,6 +68,14 @@ impl Ours {
         })
     }
 
+    pub fn shift(&self, first: u64, second: u64) -> Answer {
+        match self.held.as_ref().map(|(_, timer)| timer.shift(first, second)) {
+            None => Answer::NoTimer,
+            Some(Ok(ticks)) => Answer::Shift(ticks.into()),
+            Some(Err(why)) => Answer::Refused(why.number()),
+        }
+    }
+
     pub fn state(&self) -> Option<State> {
         self.held.as_ref().map(|(config, timer)| shown(config, &timer.state()))
     }

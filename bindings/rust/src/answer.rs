@@ -48,6 +48,8 @@ pub enum Refusal {
     AreaTooSmall,
     /// 17: a watchdog's prescaler from 10 to 15.
     Period = 17,
+    /// 18: two edges that lie 32,767 ticks or more apart.
+    TooFarApart,
 }
 
 /// The next event: its cycle, and the flags, as TIFR bits, that its tick will raise.
@@ -97,6 +99,7 @@ impl Refusal {
             Self::Asleep => "wake the timer first",
             Self::AreaTooSmall => "lend a larger area: 110 bytes hold any call's records",
             Self::Period => "give a prescaler of 0 to 9",
+            Self::TooFarApart => "ask for edges that lie nearer each other, or divide the way",
         }
     }
 
@@ -111,7 +114,8 @@ impl Refusal {
             7 => Self::Asleep,
             8 => Self::AreaTooSmall,
             17 => Self::Period,
-            _ => unreachable!("refusals are 1 to 8 and 17, this is {number}"),
+            18 => Self::TooFarApart,
+            _ => unreachable!("refusals are 1 to 8, 17 and 18, this is {number}"),
         }
     }
 }

@@ -1,5 +1,5 @@
 //! What `crates/shell` exports, in C's layout: the configuration of `crates/config`, the timer of `crates/counter`, the
-//! watchdog of `crates/oscillator`, and `asked.rt`, `exports.rt` and `watchdogs.rt`.
+//! watchdog of `crates/oscillator`, and `asked.rt`, `exports.rt`, `lists.rt`, `shifts.rt` and `watchdogs.rt`.
 
 #[repr(C)]
 #[derive(Clone, Copy, Debug, PartialEq, Eq)]
@@ -148,6 +148,13 @@ pub struct Distance {
     pub looked: u8,
 }
 
+#[repr(C)]
+#[derive(Clone, Copy)]
+pub struct Shifted {
+    pub number: u8,
+    pub ticks: i32,
+}
+
 /// A `&mut [u8]` of Rattle.
 #[repr(C)]
 pub struct Area {
@@ -241,6 +248,7 @@ extern "C" {
     pub fn paddlemauve_shape() -> Shape;
     pub fn paddlemauve_start(config: Config) -> Begun;
     pub fn paddlemauve_distance(timer: Timer) -> Distance;
+    pub fn paddlemauve_shift(timer: Timer, first: u64, second: u64) -> Shifted;
     pub fn paddlemauve_call(timer: &mut Timer, asked: Asked, area: Area) -> Reply;
     pub fn paddlemauve_writes(timer: Timer, list: List, area: Area) -> Ended;
     pub fn paddlemauve_watchdog() -> Watchdog;

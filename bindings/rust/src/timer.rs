@@ -234,6 +234,28 @@ impl Timer {
         Distance { ticks, flags, looked }
     }
 
+    /// How many ticks later an edge at the second cycle is captured than one at the first, of the timer as it stands: negative where
+    /// the second comes first, 0 where the counter does not run. Nothing changes.
+    ///
+    /// ```
+    /// use paddlemauve::{Config, Refusal, Timer};
+    ///
+    /// let mut timer = Timer::new(&Config::M328P_TIMER1)?;
+    /// timer.write(0x81, 0x05, 0, &mut [])?; // clock / 1024
+    /// assert_eq!(timer.shift(16_000_000, 17_600_000)?, 1562);
+    /// assert_eq!(timer.shift(17_600_000, 16_000_000)?, -1562);
+    /// assert_eq!(timer.shift(0, 32_767 * 1024), Err(Refusal::TooFarApart));
+    /// # Ok::<(), Refusal>(())
+    /// ```
+    pub fn shift(&self, first: u64, second: u64) -> Result<i32, Refusal> {
+        // SAFETY: the timer came from the library and only the library has changed it, so it is valid.
+        let raw::Shifted { number, ticks } = unsafe { raw::paddlemauve_shift(self.raw, first, second) };
+        match number {
+            0 => Ok(ticks),
+            number => Err(Refusal::of(number)),
+        }
+    }
+
     /// A call that yields a byte and writes no record.
     #[inline]
     fn byte(&mut self, call: Call, cycle: u64) -> Result<u8, Refusal> {

@@ -27,8 +27,9 @@ fn numbers() {
         Refusal::Asleep,
         Refusal::AreaTooSmall,
         Refusal::Period,
+        Refusal::TooFarApart,
     ];
-    assert_eq!(all.map(Refusal::number), [1, 2, 3, 4, 5, 6, 7, 8, 17]);
+    assert_eq!(all.map(Refusal::number), [1, 2, 3, 4, 5, 6, 7, 8, 17, 18]);
     assert_eq!(Refusal::EventDue.to_string(), "refused 6: advance to the cycle first");
 }
 

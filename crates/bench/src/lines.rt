@@ -4,6 +4,7 @@ use crate::bench::Bench;
 use crate::call_lines::call_line;
 use crate::config_lines::config_line;
 use crate::config_lines::preset_line;
+use crate::shift_lines::shift_line;
 use crate::state_lines::state_line;
 use crate::wdt_lines::wdt_line;
 use page::Page;
@@ -46,7 +47,7 @@ fn command(b: Bench, line: &[u8], page: &mut Page) -> Bench
     let end = find(line, start, b' ');
     // The calls come first, by their words: call_lines goes by these places.
     let name = place(
-        b"advance next reset wake tifr timsk read peek prr wtifr wtimsk presc route acout sleep tsm write edge config preset state pin sched distance wdt",
+        b"advance next reset wake tifr timsk read peek prr wtifr wtimsk presc route acout sleep tsm write edge config preset state pin sched distance wdt shift",
         &line[start..end],
     );
     match name {
@@ -61,6 +62,7 @@ fn command(b: Bench, line: &[u8], page: &mut Page) -> Bench
         22 => scheduled(b, line, end, page),
         23 => state_line(b, line, end, true, page),
         24 => wdt_line(b, line, end, page),
+        25 => shift_line(b, line, end, page),
         _ => b.unreadable(page, UNKNOWN_COMMAND),
     }
 }

@@ -4,6 +4,7 @@ mod bench;
 mod call_lines;
 mod config_lines;
 mod lines;
+mod shift_lines;
 mod state_lines;
 mod wdt_lines;
 mod wdt_shown;

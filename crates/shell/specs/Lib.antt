@@ -1,5 +1,6 @@
 pub mod Lent
 pub mod Lists
 pub mod Numbers
+pub mod Shifts
 pub mod Histories
 pub mod Watchdogs

@@ -4,4 +4,5 @@ pub mod asked;
 pub mod exports;
 pub mod lent;
 pub mod lists;
+pub mod shifts;
 pub mod watchdogs;

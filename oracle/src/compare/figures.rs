@@ -24,7 +24,7 @@ const KINDS: [&str; 4] = ["wide", "narrow", "single", "single without WGM"];
 pub struct Figures {
     scripts: usize,
     seeds: Option<(u64, u64)>,
-    /// Lines by their first word; calls are all of them but `state` and the configurations.
+    /// Lines by their first word; calls are all of them but `state`, `distance`, `shift` and the configurations.
     lines: BTreeMap<String, usize>,
     timers: BTreeMap<&'static str, usize>,
     refused: BTreeMap<u8, usize>,
@@ -117,7 +117,7 @@ impl Figures {
     fn aims(&self) -> Vec<(&'static str, String, bool)> {
         let mut aims = Vec::new();
         let mut aim = |what, which: String, reached| aims.push((what, which, reached));
-        (1..=11).for_each(|n| aim("refusals", n.to_string(), self.refused.contains_key(&n)));
+        (1..=11).chain([18]).for_each(|n| aim("refusals", n.to_string(), self.refused.contains_key(&n)));
         (0..8).for_each(|m| aim("narrow modes", m.to_string(), self.modes.contains_key(&(false, m))));
         (0..16).for_each(|m| aim("wide modes", m.to_string(), self.modes.contains_key(&(true, m))));
         KINDS.iter().for_each(|&kind| aim("layouts", kind.into(), self.timers.contains_key(kind)));
@@ -144,7 +144,7 @@ impl Figures {
     }
 
     pub fn calls(&self) -> usize {
-        let other = |name: &str| ["state", "distance", "config", "preset"].contains(&name);
+        let other = |name: &str| ["state", "distance", "shift", "config", "preset"].contains(&name);
         self.lines.iter().filter(|(name, _)| !other(name)).map(|(_, n)| n).sum()
     }
 }
@@ -159,7 +159,7 @@ fn most_in_a_tick(answer: &str) -> usize {
 
 /// Every command of a script that can be accepted.
 fn commands() -> impl Iterator<Item = &'static str> {
-    let others = ["config", "preset", "state", "distance", "pin"];
+    let others = ["config", "preset", "state", "distance", "shift", "pin"];
     let scheduler = ["sched at", "sched cancel", "sched is", "sched pop", "sched clear"];
     CALLS.iter().map(|call| call.0).chain(others).chain(scheduler)
 }

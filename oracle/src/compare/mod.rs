@@ -69,10 +69,11 @@ pub fn clash(lines: &[String], judged: &[Option<String>], bend: Option<Bend>) ->
     None
 }
 
-/// Calls among the lines: all but configurations, `state` and `distance`.
+/// Calls among the lines: all but configurations, `state`, `distance` and `shift`.
 pub fn calls(lines: &[String]) -> usize {
     let is_call = |line: &&String| {
-        !matches!(read_line(line.as_bytes()), Ok(Some(Command::Config(_) | Command::State | Command::Distance)))
+        let read = read_line(line.as_bytes());
+        !matches!(read, Ok(Some(Command::Config(_) | Command::State | Command::Distance | Command::Shift { .. })))
     };
     lines.iter().filter(is_call).count()
 }

@@ -39,7 +39,7 @@ impl Generator {
         }
     }
 
-    /// Ends the words with a cycle and an area, and shows state and distance after the call.
+    /// Ends the words with a cycle and an area, and shows state and distance after the call, and now and then a shift.
     fn call(&mut self, words: &str, reach: Reach) {
         let (cycle, area) = match self.play.side.view() {
             Some(view) => (cycles::cycle(&mut self.rng, &view, reach), cycles::area(&mut self.rng)),
@@ -48,6 +48,9 @@ impl Generator {
         self.say(format!("{words} {cycle} {area}"));
         self.say("state".into());
         self.say("distance".into());
+        if self.aside.percent(25) {
+            self.shift();
+        }
     }
 
     /// A call where there is no timer yet.

@@ -3,7 +3,7 @@
 use super::rng::Rng;
 use crate::judge::View;
 
-const LAST_CYCLE: u64 = (1 << 62) - 1;
+pub const LAST_CYCLE: u64 = (1 << 62) - 1;
 
 /// Ticks that the plain counter is asked to work in one call, and how far it may go once in a while.
 const NEAR: u64 = 3_000;

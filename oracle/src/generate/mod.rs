@@ -6,6 +6,7 @@ mod configs;
 mod cycles;
 mod others;
 mod rng;
+mod shifts;
 mod values;
 pub mod watchdog;
 
@@ -15,6 +16,8 @@ use rng::Rng;
 
 struct Generator {
     rng: Rng,
+    /// For lines that move no timer, so that a seed's calls do not hang on them.
+    aside: Rng,
     play: Play<Judge>,
     lines: Vec<String>,
     calls: usize,
@@ -25,10 +28,10 @@ impl Generator {
         self.play.side.view()
     }
 
-    /// Adds a line and lets the judge work it. `state`, `distance` and configurations are not calls.
+    /// Adds a line and lets the judge work it. `state`, `distance`, `shift` and configurations are not calls.
     fn say(&mut self, line: String) {
         self.play.answer(line.as_bytes());
-        if !["state", "distance", "config", "preset"].iter().any(|w| line.starts_with(w)) {
+        if !["state", "distance", "shift", "config", "preset"].iter().any(|w| line.starts_with(w)) {
             self.calls += 1;
         }
         self.lines.push(line);
@@ -54,10 +57,10 @@ impl Generator {
     }
 }
 
-/// A script of at least so many calls, with `state` and `distance` after every one on the timer.
+/// A script of at least so many calls, with `state` and `distance` after every one on the timer, and `shift` after some.
 pub fn script(seed: u64, calls: usize) -> Vec<String> {
     let play = Play::new(Judge::new(Follow::Sheet));
-    let mut generator = Generator { rng: Rng::new(seed), play, lines: Vec::new(), calls: 0 };
+    let mut generator = Generator { rng: Rng::new(seed), aside: Rng::new(!seed), play, lines: Vec::new(), calls: 0 };
     if generator.rng.percent(97) {
         generator.configure();
     }

@@ -125,6 +125,19 @@ impl Held {
     fn state(&self) -> State {
         self.bench.state(&self.config, self.latest)
     }
+
+    /// How many ticks later a second edge is captured, by the tick numbers that the Rust's own sync reckons with.
+    fn shift(&self, first: u64, second: u64) -> Answer {
+        let t = self.bench.timer.inside();
+        let number = |cycle: u64| ((cycle - t.ps_base) / t.divisor) as i64;
+        let far = t.divisor > 0 && first.abs_diff(second) >= 32_767 * t.divisor;
+        match refusals::late(self, first).or(refusals::late(self, second)) {
+            Some(number) => Answer::Refused(number),
+            None if far => Answer::Refused(18),
+            None if t.divisor == 0 => Answer::Shift(0),
+            None => Answer::Shift(number(second) - number(first)),
+        }
+    }
 }
 
 impl Side for Judge {
@@ -169,6 +182,10 @@ impl Side for Judge {
     fn distance(&self) -> Option<Distance> {
         let flags = self.plain.as_ref().and_then(Plain::distance).map_or(0, |distance| distance.flags);
         self.held.as_ref().map(|held| held.bench.distance(&held.config, flags))
+    }
+
+    fn shift(&self, first: u64, second: u64) -> Answer {
+        self.held.as_ref().map_or(Answer::NoTimer, |held| held.shift(first, second))
     }
 
     fn pin(&self, pin: &PinLine) -> Answer {

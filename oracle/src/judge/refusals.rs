@@ -7,10 +7,9 @@ use crate::script::Call;
 const LAST_CYCLE: u64 = (1 << 62) - 1;
 
 pub fn number(held: &Held, call: Call, cycle: u64) -> Option<u8> {
-    if cycle > LAST_CYCLE {
-        Some(2)
-    } else if cycle < held.latest {
-        Some(3)
+    let late = late(held, cycle);
+    if late.is_some() {
+        late
     } else if foreign_address(held, call) {
         Some(4)
     } else if bad_level(call) {
@@ -19,6 +18,17 @@ pub fn number(held: &Held, call: Call, cycle: u64) -> Option<u8> {
         Some(6)
     } else if disturbs_sleep(held, call) {
         Some(7)
+    } else {
+        None
+    }
+}
+
+/// 2 or 3, which are of the cycle alone.
+pub fn late(held: &Held, cycle: u64) -> Option<u8> {
+    if cycle > LAST_CYCLE {
+        Some(2)
+    } else if cycle < held.latest {
+        Some(3)
     } else {
         None
     }

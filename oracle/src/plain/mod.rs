@@ -13,6 +13,7 @@ mod registers;
 mod rules;
 mod scheduler;
 mod setup;
+mod shift;
 mod tables;
 mod tick;
 mod timer;
@@ -111,6 +112,10 @@ impl Side for Plain {
 
     fn distance(&self) -> Option<Distance> {
         self.timer.as_ref().map(Timer::distance)
+    }
+
+    fn shift(&self, first: u64, second: u64) -> Answer {
+        self.timer.as_ref().map_or(Answer::NoTimer, |timer| timer.shift(first, second))
     }
 
     fn pin(&self, pin: &PinLine) -> Answer {

@@ -6,14 +6,20 @@ use super::timer::Timer;
 use crate::script::Call;
 
 impl Timer {
-    /// The first number that turns the call away.
-    pub fn refusal(&self, call: Call, cycle: u64) -> Option<u8> {
+    /// 2 or 3, which are of the cycle alone.
+    pub fn late(&self, cycle: u64) -> Option<u8> {
         let most = if self.bent(Bend::LastCycleRefused) { (1 << 62) - 2 } else { (1 << 62) - 1 };
         if cycle > most {
             return Some(2);
         }
-        if cycle < self.latest && !(call == Call::Reset && self.bent(Bend::ResetLowersLatest)) {
-            return Some(3);
+        (cycle < self.latest).then_some(3)
+    }
+
+    /// The first number that turns the call away.
+    pub fn refusal(&self, call: Call, cycle: u64) -> Option<u8> {
+        let back = call == Call::Reset && self.bent(Bend::ResetLowersLatest);
+        if let Some(number) = self.late(cycle).filter(|&n| n != 3 || !back) {
+            return Some(number);
         }
         let unknown = named(call).is_some_and(|address| self.setup.register(address).is_none());
         if unknown && !self.bent(Bend::AddressRefusedLate) {

@@ -24,6 +24,8 @@ pub enum Answer {
         bytes: usize,
     },
     NoTimer,
+    /// Of a late edge, in ticks (02, 2.9).
+    Shift(i64),
     Pin {
         level: u8,
         volts: f64,
@@ -67,6 +69,7 @@ impl Answer {
             }
             Self::Paused { cycle, next, .. } => format!("paused cycle={cycle} {} {}", event(*next), records()),
             Self::NoTimer => "no timer".into(),
+            Self::Shift(ticks) => format!("ok shift={ticks}"),
             Self::Pin { level, volts, changed, contention } => {
                 format!(
                     "ok level={level} volts={:016x} changed={} contention={}",

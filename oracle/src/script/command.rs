@@ -43,6 +43,7 @@ pub enum Command {
     Call { call: Call, cycle: u64, area: usize },
     State,
     Distance,
+    Shift { first: u64, second: u64 },
     Pin(PinLine),
     Sched(Sched),
     Wdt(Wdt),
@@ -79,6 +80,10 @@ impl Command {
             "preset" => Config::read_preset(rest).map(|c| Self::Config(Box::new(c))),
             "state" => exactly(rest, 0).map(|()| Self::State),
             "distance" => exactly(rest, 0).map(|()| Self::Distance),
+            "shift" => {
+                exactly(rest, 2)?;
+                Ok(Self::Shift { first: words::cycle(rest[0])?, second: words::cycle(rest[1])? })
+            }
             "pin" => PinLine::read(rest).map(Self::Pin),
             "sched" => read_sched(rest).map(Self::Sched),
             "wdt" => Wdt::read(rest).map(Self::Wdt),

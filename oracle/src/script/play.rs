@@ -21,6 +21,7 @@ pub trait Side {
     fn call(&mut self, call: Call, cycle: u64, area: &mut [u8]) -> Answer;
     fn state(&self) -> Option<State>;
     fn distance(&self) -> Option<Distance>;
+    fn shift(&self, first: u64, second: u64) -> Answer;
     fn pin(&self, pin: &PinLine) -> Answer;
     fn sched(&mut self, sched: Sched) -> Answer;
 }
@@ -53,6 +54,7 @@ impl<S: Side> Play<S> {
             Command::Call { call, cycle, area } => self.call(*call, *cycle, *area),
             Command::State => self.side.state().map_or(Answer::NoTimer.line(&[]), |s| s.to_string()),
             Command::Distance => self.side.distance().map_or(Answer::NoTimer.line(&[]), |d| d.to_string()),
+            Command::Shift { first, second } => self.side.shift(*first, *second).line(&[]),
             Command::Pin(pin) => self.side.pin(pin).line(&[]),
             Command::Sched(sched) => self.side.sched(*sched).line(&[]),
             Command::Wdt(wdt) => self.wdt(*wdt),
