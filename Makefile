@@ -70,6 +70,10 @@ bindings: library
 	target/t1
 	$(CXX) $(WARN) -std=c++11 -o target/door bindings/c/door.cpp $(LIBRARY)
 	target/door
+	$(CC) $(WARN) -std=c11 -o target/board bindings/c/board.c $(LIBRARY)
+	target/board
+	$(CXX) $(WARN) -std=c++11 -o target/board -x c++ bindings/c/board.c -x none $(LIBRARY)
+	target/board
 	$(CC) $(WARN) -std=c11 -o target/m328p bindings/c/m328p.c
 	@target/m328p | while read -r keys; do grep -qF "\"$$keys\"" oracle/src/script/presets.rs || { echo "bindings: paddlemauve_m328p.h has a timer that is no preset: $$keys" >&2; exit 1; }; done
 ifneq ($(MCS),)

@@ -1,5 +1,5 @@
-/* What crates/shell exports, with the timer of crates/counter, its configuration of crates/config, and the watchdog of crates/oscillator, for C
- * and C++ on x86-64. */
+/* What crates/shell exports, with the timer of crates/counter, its configuration of crates/config, the watchdog of crates/oscillator and the board
+ * of crates/board, for C and C++ on x86-64. */
 #ifndef PADDLEMAUVE_H
 #define PADDLEMAUVE_H
 
@@ -48,7 +48,8 @@ enum pm_refusal {
     PM_ASLEEP,               /* halted asleep: wake the timer first */
     PM_AREA_TOO_SMALL,       /* lend PM_AREA bytes */
     PM_LIST_LENGTH = 12,     /* a list of writes has PM_WRITE_BYTES an item */
-    PM_PERIOD = 17,          /* a watchdog's prescaler is 0 to 9 */
+    PM_NOWHERE = 16,         /* on the board: neither GTCCR's address nor a timer's */
+    PM_PERIOD,               /* a watchdog's prescaler is 0 to 9 */
     PM_TOO_FAR_APART,        /* two edges 32,767 ticks or more apart: ask for nearer ones, or divide the way */
     PM_NO_CALL = 255         /* the kind is no enum pm_kind */
 };
@@ -127,6 +128,34 @@ struct pm_watched paddlemauve_watchdog_wdr(struct pm_watchdog w, uint64_t cycle)
 struct pm_watched paddlemauve_watchdog_serve(struct pm_watchdog w, uint64_t cycle);
 struct pm_watched paddlemauve_watchdog_read(struct pm_watchdog w, uint64_t cycle);
 struct pm_watched paddlemauve_watchdog_write(struct pm_watchdog w, uint8_t value, uint64_t cycle);
+
+/* The ATmega328P board: Timer0, Timer1 and Timer2, the scheduler of their next events, and GTCCR. It comes from paddlemauve_board and is changed by
+ * paddlemauve_board_call alone. */
+struct pm_board {
+    struct pm_timer timers[3];
+    struct {
+        struct { struct { uint8_t owner, tag; } key; uint64_t cycle; } places[64];
+        size_t count;
+        uint64_t next;      /* the earliest cycle held, 2^64 - 1 where none is */
+    } scheduler;
+    uint8_t gtccr;
+};
+
+enum pm_order {
+    PM_BOARD_ADVANCE, PM_BOARD_NEXT, PM_BOARD_RESET, PM_BOARD_EDGE, PM_BOARD_ROUTE, PM_BOARD_OUTPUT, PM_BOARD_READ, PM_BOARD_PEEK, PM_BOARD_WRITE,
+    PM_BOARD_SLEEP, PM_BOARD_WAKE, PM_BOARD_REDUCE
+};
+
+/* kind: an enum pm_order; id: the timer's, 0 to 2, and 0 where the order takes an address or reaches all three; the other fields are read where the
+ * order has such an argument. */
+struct pm_ordered { uint8_t kind, id, pin, value; uint16_t address; uint64_t cycle; };
+
+/* number to value: as in struct pm_reply. timers: what each timer then answers to PM_NEXT, PM_EVENT_AT or PM_NO_EVENT, with the bytes written in its area. */
+struct pm_replied { uint8_t number, what, flags; uint64_t value; struct pm_reply timers[3]; };
+
+struct pm_board paddlemauve_board(void);
+struct pm_shape paddlemauve_board_shape(void);
+struct pm_replied paddlemauve_board_call(struct pm_board *board, struct pm_ordered ordered, struct pm_area zero, struct pm_area one, struct pm_area two);
 
 /* The bytes of a record, and those of an area that holds the records of any call's one event. */
 enum { PM_RECORD = 10, PM_AREA = 110 };

@@ -27,7 +27,7 @@ pub enum Call {
     Reset,
 }
 
-/// Why a call was turned away. Nothing has changed then: neither the timer or watchdog nor a byte of the area.
+/// Why a call was turned away. Nothing has changed then: neither the timer, board or watchdog nor a byte of an area.
 #[derive(Clone, Copy, Debug, PartialEq, Eq)]
 pub enum Refusal {
     /// 1: the configuration breaks a rule.
@@ -46,8 +46,10 @@ pub enum Refusal {
     Asleep,
     /// 8: the records exceed the area.
     AreaTooSmall,
+    /// 16: no timer of the board has a register at the address, and it is not GTCCR's.
+    Nowhere = 16,
     /// 17: a watchdog's prescaler from 10 to 15.
-    Period = 17,
+    Period,
     /// 18: two edges that lie 32,767 ticks or more apart.
     TooFarApart,
 }
@@ -98,6 +100,7 @@ impl Refusal {
             Self::EventDue => "advance to the cycle first",
             Self::Asleep => "wake the timer first",
             Self::AreaTooSmall => "lend a larger area: 110 bytes hold any call's records",
+            Self::Nowhere => "give the data address of GTCCR or of a timer's register, TIFRn or TIMSKn",
             Self::Period => "give a prescaler of 0 to 9",
             Self::TooFarApart => "ask for edges that lie nearer each other, or divide the way",
         }
@@ -113,9 +116,10 @@ impl Refusal {
             6 => Self::EventDue,
             7 => Self::Asleep,
             8 => Self::AreaTooSmall,
+            16 => Self::Nowhere,
             17 => Self::Period,
             18 => Self::TooFarApart,
-            _ => unreachable!("refusals are 1 to 8, 17 and 18, this is {number}"),
+            _ => unreachable!("refusals are 1 to 8 and 16 to 18, this is {number}"),
         }
     }
 }

@@ -4,7 +4,8 @@
 use std::mem::{align_of, size_of};
 use std::sync::Once;
 
-use crate::answer::{Answer, Call, Outcome, Refusal};
+use crate::answer::{Answer, Call, Next, Outcome, Refusal};
+use crate::board::{Board, Id};
 use crate::config::Config;
 use crate::raw::{self, Shape};
 use crate::timer::{State, Timer};
@@ -89,6 +90,41 @@ fn reading() {
     assert_eq!(timer.state(), READING, "the library's timer does not read as ours");
     assert_eq!(area[..20], RECORDS, "the library's records are not those of the reading");
     assert_eq!(area[20..], [0xa5; 4], "the library wrote past its records");
+}
+
+/// Compares the library's board with this crate's, once: the reading of Timer1 on the board, TSM in GTCCR, and the scheduler while Timer0 counts.
+///
+/// # Panics
+/// Where they differ.
+pub fn check_board() {
+    static CHECKED: Once = Once::new();
+    CHECKED.call_once(|| {
+        check();
+        // SAFETY: the function takes nothing and answers two numbers.
+        let said = unsafe { raw::paddlemauve_board_shape() };
+        let ours = Shape { size: size_of::<raw::Board>() as u64, align: align_of::<raw::Board>() as u64 };
+        assert_eq!(said, ours, "the library's board is not of our shape: build bindings and library from one commit");
+        boarded().expect("the library takes the orders");
+    });
+}
+
+/// Timer2 counts, then TSM holds all three.
+fn boarded() -> Result<(), Refusal> {
+    let mut board = Board::start();
+    let mut area = [0xa5; 24];
+    board.write(0xb4, 0xff, 3, Default::default())?;
+    board.write(0xb1, 0x04, 5, Default::default())?;
+    let next = Some(Next { cycle: 64, flags: 0x02 });
+    assert_eq!(board.nexts(), [None, None, next], "the library's next events do not read as ours");
+    assert_eq!(board.earliest(), Some(64), "the library's scheduler does not read as ours");
+    board.advance(Id::Timer2, 64, &mut area)?;
+    assert_eq!(area[..10], [0x40, 0, 0, 0, 0, 0, 0, 64, 2, 0], "the library's record is not that of the reading");
+    assert_eq!(area[20..], [0xa5; 4], "the library wrote past its records");
+    board.write(0x43, 0x82, 70, Default::default())?;
+    assert_eq!((board.gtccr(), board.earliest()), (0x82, None), "the library's board does not read as ours");
+    let State { latest, tsm, count, .. } = board.timer(Id::Timer2).state();
+    assert_eq!((latest, tsm, count), (70, true, 1), "the library's Timer2 does not read as ours");
+    Ok(())
 }
 
 /// A watchdog whose calls leave another number in each field.

@@ -19,6 +19,7 @@
 //! ```
 
 mod answer;
+mod board;
 mod config;
 mod layout;
 mod list;
@@ -28,6 +29,7 @@ mod timer;
 mod watchdog;
 
 pub use answer::{Answer, Call, Next, Outcome, Refusal};
+pub use board::{Board, BoardOutcome, Id, Order};
 pub use config::{Capture, Clocks, Compare, Config, Layout};
 pub use list::{Why, Write, Written};
 pub use record::{records, Event, Record, EVENT, RECORD};

@@ -1,5 +1,5 @@
 //! What `crates/shell` exports, in C's layout: the configuration of `crates/config`, the timer of `crates/counter`, the
-//! watchdog of `crates/oscillator`, and `asked.rt`, `exports.rt`, `lists.rt`, `shifts.rt` and `watchdogs.rt`.
+//! watchdog of `crates/oscillator`, the board of `crates/board`, and `asked.rt`, `boards.rt`, `exports.rt`, `lists.rt`, `shifts.rt` and `watchdogs.rt`.
 
 #[repr(C)]
 #[derive(Clone, Copy, Debug, PartialEq, Eq)]
@@ -244,6 +244,57 @@ pub struct Report {
     pub written: u64,
 }
 
+#[repr(C)]
+#[derive(Clone, Copy, Debug, PartialEq, Eq)]
+pub struct EventKey {
+    pub owner: u8,
+    pub tag: u8,
+}
+
+#[repr(C)]
+#[derive(Clone, Copy, Debug, PartialEq, Eq)]
+pub struct Event {
+    pub key: EventKey,
+    pub cycle: u64,
+}
+
+#[repr(C)]
+#[derive(Clone, Copy, Debug, PartialEq, Eq)]
+pub struct Scheduler {
+    pub places: [Event; 64],
+    pub count: usize,
+    pub next: u64,
+}
+
+#[repr(C)]
+#[derive(Clone, Copy, Debug, PartialEq, Eq)]
+pub struct Board {
+    pub timers: [Timer; 3],
+    pub scheduler: Scheduler,
+    pub gtccr: u8,
+}
+
+#[repr(C)]
+#[derive(Clone, Copy)]
+pub struct Ordered {
+    pub kind: u8,
+    pub id: u8,
+    pub pin: u8,
+    pub value: u8,
+    pub address: u16,
+    pub cycle: u64,
+}
+
+#[repr(C)]
+#[derive(Clone, Copy)]
+pub struct Replied {
+    pub number: u8,
+    pub what: u8,
+    pub flags: u8,
+    pub value: u64,
+    pub timers: [Reply; 3],
+}
+
 extern "C" {
     pub fn paddlemauve_shape() -> Shape;
     pub fn paddlemauve_start(config: Config) -> Begun;
@@ -251,6 +302,9 @@ extern "C" {
     pub fn paddlemauve_shift(timer: Timer, first: u64, second: u64) -> Shifted;
     pub fn paddlemauve_call(timer: &mut Timer, asked: Asked, area: Area) -> Reply;
     pub fn paddlemauve_writes(timer: Timer, list: List, area: Area) -> Ended;
+    pub fn paddlemauve_board() -> Board;
+    pub fn paddlemauve_board_shape() -> Shape;
+    pub fn paddlemauve_board_call(board: &mut Board, ordered: Ordered, zero: Area, one: Area, two: Area) -> Replied;
     pub fn paddlemauve_watchdog() -> Watchdog;
     pub fn paddlemauve_watchdog_advance(w: Watchdog, cycle: u64, area: Area) -> Watched;
     pub fn paddlemauve_watchdog_next(w: Watchdog, cycle: u64) -> Watched;

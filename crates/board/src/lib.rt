@@ -26,7 +26,7 @@ ghost use Rattle.board.specs.State.{Valid};
 ghost use Rattle.board.specs.Calls.{nothing, areasOf, Took, told, aimed, Tells};
 
 // An order turned away: the board is as it was.
-fn refused(b: Board, number: u8) -> Outcome
+pub fn refused(b: Board, number: u8) -> Outcome
     ensures { λ r. ⌜ r ≡ record { answer = Answer.Refused number; board = b; written = nothing } ⌝ }
 {
     Outcome {

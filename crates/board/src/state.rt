@@ -12,6 +12,7 @@ ghost use Rattle.counter.specs.Valid.{Valid as Running};
 ghost use Rattle.board.specs.State.{boardTo, boardAll, freshBoard, Valid};
 
 // The timers by their ids; the scheduler holds the next events that they have.
+#[repr(C)]
 pub struct Board {
     pub zero: Timer,
     pub one: Timer,

@@ -8,11 +8,13 @@ ghost use lib.ListN.{getD, set};
 ghost use Rattle.events.specs.Events.{blank, same, placeOf, earliest, foremost, swapRemoved, listIn, Packed};
 
 // Identifies an event: the owning peripheral index and a peripheral-defined tag.
+#[repr(C)]
 pub struct EventKey {
     pub owner: u8,
     pub tag: u8,
 }
 
+#[repr(C)]
 pub struct Event {
     pub key: EventKey,
     pub cycle: u64,
@@ -21,6 +23,7 @@ pub struct Event {
 // How many events are held at most.
 pub const PLACES: usize = 64;
 
+#[repr(C)]
 pub struct Events {
     places: [Event; PLACES],
     pub count: usize,

@@ -11,6 +11,7 @@ pub use events::EventKey;
 use events::Events;
 use events::PLACES;
 
+#[repr(C)]
 pub struct Scheduler {
     events: Events,
     // Cycle of the earliest event (2^64 - 1 when none).

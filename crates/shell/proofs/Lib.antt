@@ -1,5 +1,6 @@
 pub mod Histories
 pub mod Listed
+pub mod Obeyed
 pub mod Past
 pub mod Replied
 pub mod Reported

@@ -1,3 +1,4 @@
+pub mod Boards
 pub mod Lent
 pub mod Lists
 pub mod Numbers

@@ -1,0 +1,248 @@
+//! The board beside three timers of their own under the same calls: a million random orders. Answers, every byte of the
+//! areas, the timers whole, GTCCR, next events and the scheduler's earliest are compared after each.
+
+use paddlemauve::{Answer, Board, BoardOutcome, Call, Config, Id, Next, Order, Outcome, Refusal, Timer};
+
+const ORDERS: u64 = 1_000_000;
+
+/// What stands in every byte of an area before each order.
+const FILL: u8 = 0xa5;
+
+const IDS: [Id; 3] = [Id::Timer0, Id::Timer1, Id::Timer2];
+
+/// Addresses that are a timer's, GTCCR's, and nobody's.
+const ADDRESSES: [u16; 40] = [
+    0x35, 0x36, 0x37, 0x43, 0x43, 0x43, 0x44, 0x45, 0x45, 0x45, 0x46, 0x47, 0x48, 0x6e, 0x6f, 0x70, 0x80, 0x81, 0x81, 0x82,
+    0x84, 0x85, 0x86, 0x87, 0x88, 0x89, 0x8a, 0x8b, 0xb0, 0xb1, 0xb1, 0xb2, 0xb3, 0xb4, 0x00, 0x34, 0x49, 0x83, 0xb5, 0x1ff,
+];
+
+/// Three timers held apart, and GTCCR.
+struct Three {
+    timers: [Timer; 3],
+    gtccr: u8,
+}
+
+/// What an address is: a timer and the call on it.
+enum Place {
+    Own(usize, Call),
+    Gtccr,
+    Nowhere,
+}
+
+fn reads(address: u16, register: Call) -> Place {
+    match address {
+        0x35..=0x37 => Place::Own(address as usize - 0x35, Call::Tifr),
+        0x6e..=0x70 => Place::Own(address as usize - 0x6e, Call::Timsk),
+        _ => register_at(address, register),
+    }
+}
+
+fn writes(address: u16, value: u8) -> Place {
+    match address {
+        0x35..=0x37 => Place::Own(address as usize - 0x35, Call::WriteTifr(value)),
+        0x6e..=0x70 => Place::Own(address as usize - 0x6e, Call::WriteTimsk(value)),
+        _ => register_at(address, Call::Write(address, value)),
+    }
+}
+
+fn register_at(address: u16, call: Call) -> Place {
+    match address {
+        0x43 => Place::Gtccr,
+        0x44..=0x48 => Place::Own(0, call),
+        0x80..=0x82 | 0x84..=0x8b => Place::Own(1, call),
+        0xb0..=0xb4 => Place::Own(2, call),
+        _ => Place::Nowhere,
+    }
+}
+
+impl Three {
+    fn new() -> Self {
+        let configs = [Config::M328P_TIMER0, Config::M328P_TIMER1, Config::M328P_TIMER2];
+        Self { timers: configs.map(|c| Timer::new(&c).expect("the preset is accepted")), gtccr: 0 }
+    }
+
+    fn call(&mut self, order: Order, cycle: u64, areas: &mut [Vec<u8>; 3]) -> BoardOutcome {
+        match order {
+            Order::Advance(id) => self.own(id as usize, Call::Advance, cycle, areas),
+            Order::Next(id) => self.own(id as usize, Call::Next, cycle, areas),
+            Order::Reset(id) => self.own(id as usize, Call::Reset, cycle, areas),
+            Order::Edge { id, pin, level } => self.own(id as usize, Call::Edge { pin, level }, cycle, areas),
+            Order::Route(id, level) => self.own(id as usize, Call::Route(level), cycle, areas),
+            Order::Output(id, level) => self.own(id as usize, Call::Output(level), cycle, areas),
+            Order::Read(address) => self.at(reads(address, Call::Read(address)), None, cycle, areas),
+            Order::Peek(address) => self.at(reads(address, Call::Peek(address)), None, cycle, areas),
+            Order::Write(address, value) => self.at(writes(address, value), Some(value), cycle, areas),
+            Order::Sleep(mode) => self.all(&[Call::Sleep(mode)], cycle),
+            Order::Wake => self.all(&[Call::Wake], cycle),
+            Order::Reduce(prr) => self.all(&[Call::Reduce(prr as u16)], cycle),
+        }
+    }
+
+    fn own(&mut self, i: usize, call: Call, cycle: u64, areas: &mut [Vec<u8>; 3]) -> BoardOutcome {
+        let Outcome { answer, written: bytes } = self.timers[i].call(call, cycle, &mut areas[i]);
+        let mut written = [0; 3];
+        written[i] = bytes;
+        BoardOutcome { answer, written }
+    }
+
+    /// An order by address; a byte to GTCCR is TSM where bit 7 changes, and then the prescaler resets.
+    fn at(&mut self, place: Place, value: Option<u8>, cycle: u64, areas: &mut [Vec<u8>; 3]) -> BoardOutcome {
+        match (place, value) {
+            (Place::Own(i, call), _) => self.own(i, call, cycle, areas),
+            (Place::Nowhere, _) => silent(Answer::Refused(Refusal::Nowhere)),
+            (Place::Gtccr, None) => silent(Answer::Value(self.gtccr)),
+            (Place::Gtccr, Some(v)) => {
+                let calls = [Call::Tsm(v >> 7), Call::Prescale(v & 3)];
+                let outcome = self.all(&calls[(v >> 7 == self.gtccr >> 7) as usize..], cycle);
+                if outcome.answer == Answer::Done {
+                    self.gtccr = if v < 0x80 { 0 } else { v & 0x83 };
+                }
+                outcome
+            }
+        }
+    }
+
+    /// Calls on all three; none is changed where one refuses one of them.
+    fn all(&mut self, calls: &[Call], cycle: u64) -> BoardOutcome {
+        let mut after = self.timers.clone();
+        let refusals: Vec<Refusal> = after.iter_mut().filter_map(|t| refusal(t, calls, cycle)).collect();
+        match refusals.into_iter().min_by_key(|r| r.number()) {
+            Some(why) => silent(Answer::Refused(why)),
+            None => {
+                self.timers = after;
+                silent(Answer::Done)
+            }
+        }
+    }
+}
+
+fn silent(answer: Answer) -> BoardOutcome {
+    BoardOutcome { answer, written: [0; 3] }
+}
+
+/// The first of the calls that is refused; none writes a record.
+fn refusal(timer: &mut Timer, calls: &[Call], cycle: u64) -> Option<Refusal> {
+    calls.iter().find_map(|&call| match timer.call(call, cycle, &mut []) {
+        Outcome { answer: Answer::Refused(why), .. } => Some(why),
+        outcome => {
+            assert_eq!(outcome, Outcome { answer: Answer::Done, written: 0 });
+            None
+        }
+    })
+}
+
+/// SplitMix64.
+struct Random(u64);
+
+impl Random {
+    fn below(&mut self, n: u64) -> u64 {
+        self.0 = self.0.wrapping_add(0x9e37_79b9_7f4a_7c15);
+        let z = (self.0 ^ self.0 >> 30).wrapping_mul(0xbf58_476d_1ce4_e5b9);
+        let z = (z ^ z >> 27).wrapping_mul(0x94d0_49bb_1331_11eb);
+        (z ^ z >> 31) % n
+    }
+
+    fn of<T: Copy>(&mut self, all: &[T]) -> T {
+        all[self.below(all.len() as u64) as usize]
+    }
+
+    fn byte(&mut self) -> u8 {
+        self.below(256) as u8
+    }
+
+    fn order(&mut self) -> Order {
+        let id = self.of(&IDS);
+        let level = (self.below(32) % 3 % 3 % 2 + self.below(64) / 63) as u8;
+        match self.below(40) {
+            0..=9 => Order::Advance(id),
+            10 => Order::Next(id),
+            11 => self.rarely(Order::Reset(id)),
+            12 | 13 => Order::Edge { id, pin: self.of(&[6, 11, 14, 15]), level },
+            14 => Order::Route(id, level),
+            15 => Order::Output(id, level),
+            16..=21 => Order::Read(self.of(&ADDRESSES)),
+            22..=25 => Order::Peek(self.of(&ADDRESSES)),
+            26..=35 => Order::Write(self.of(&ADDRESSES), self.byte()),
+            36 => self.rarely(Order::Sleep(self.0 as u8 % 9)),
+            37 | 38 => Order::Wake,
+            _ => Order::Reduce(self.0 as u8 & 0x68 & self.0.to_be_bytes()[3]),
+        }
+    }
+
+    /// Once in four; else an advance, so that events are worked.
+    fn rarely(&mut self, order: Order) -> Order {
+        if self.below(4) == 0 {
+            return order;
+        }
+        Order::Advance(self.of(&IDS))
+    }
+}
+
+/// A timer's next event, where no event is past.
+fn announced(timer: &Timer) -> Option<Option<Next>> {
+    timer.clone().next(timer.state().latest).ok()
+}
+
+#[derive(Debug, Default)]
+struct Figures {
+    refused: [u64; 18],
+    paused: u64,
+    records: usize,
+    nexts: u64,
+    past: u64,
+}
+
+/// Orders on a fresh board and on three fresh timers.
+fn compare(seed: u64, orders: u64, figures: &mut Figures) {
+    let mut random = Random(seed);
+    let mut board = Board::new();
+    let mut three = Three::new();
+    let mut cycle = 0u64;
+    for _ in 0..orders {
+        cycle = match random.below(64) {
+            0 => cycle.saturating_sub(random.below(3)),
+            1 if random.below(2000) == 0 => 1 << 62,
+            1..=20 => cycle,
+            21..=50 => cycle + random.below(40),
+            51..=62 => cycle + random.below(3000),
+            _ => cycle + random.below(200_000),
+        };
+        let order = random.order();
+        let size = random.of(&[0, 9, 10, 20, 30, 110, 110, 110, 110, 200]);
+        let mut mine: [Vec<u8>; 3] = std::array::from_fn(|_| vec![FILL; size]);
+        let mut theirs = mine.clone();
+        let [zero, one, two] = &mut mine;
+        let outcome = board.call(order, cycle, [zero, one, two]);
+        assert_eq!(outcome, three.call(order, cycle, &mut theirs), "seed {seed}: {order:?} at {cycle}");
+        assert_eq!(mine, theirs, "seed {seed}: {order:?} at {cycle}");
+        assert_eq!(IDS.map(|id| board.timer(id)), three.timers, "seed {seed}: {order:?} at {cycle}");
+        assert_eq!(board.gtccr(), three.gtccr, "seed {seed}: {order:?} at {cycle}");
+        for (next, timer) in board.nexts().iter().zip(&three.timers) {
+            match announced(timer) {
+                Some(theirs) => assert_eq!(*next, theirs, "seed {seed}: {order:?} at {cycle}"),
+                None => figures.past += 1,
+            }
+        }
+        assert_eq!(board.earliest(), board.nexts().iter().flatten().map(|n| n.cycle).min());
+        figures.nexts += board.nexts().iter().flatten().count() as u64;
+        figures.records += outcome.written.iter().sum::<usize>() / 10;
+        match outcome.answer {
+            Answer::Refused(why) => figures.refused[why.number() as usize] += 1,
+            Answer::Paused(..) => figures.paused += 1,
+            _ => (),
+        }
+        if cycle == 1 << 62 {
+            cycle = three.timers.iter().map(|t| t.state().latest).max().expect("three timers");
+        }
+    }
+}
+
+#[test]
+fn the_board_is_three_timers() {
+    let mut figures = Figures::default();
+    for seed in 0..ORDERS / 500 {
+        compare(seed, 500, &mut figures);
+    }
+    println!("{ORDERS} orders: {figures:?}");
+    assert!([2, 3, 5, 6, 7, 8, 16].iter().all(|&n| figures.refused[n] > 0), "{figures:?}");
+}

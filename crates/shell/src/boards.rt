@@ -1,0 +1,195 @@
+// The board for Rust and C: an order and its answer in numbers, on a lent board.
+
+use crate::asked::Reply;
+use crate::exports::Shape;
+use aims::Order;
+use answers::Answer;
+use answers::Outcome;
+use board::call;
+use board::refused;
+use board::state::Board;
+use counter::state::Timer;
+use m328p::Id;
+use time::units::Cycle;
+ghost use mathlib.Core.Path.{_≡_};
+ghost use Rattle.counter.specs.Valid.{Valid as Running};
+ghost use Rattle.board.specs.State.{freshBoard, Valid};
+ghost use Rattle.board.specs.Calls.{areasOf, Tells};
+ghost use Rattle.shell.specs.Boards.{orders, meantAt, orderOf, standingOf, movedOf, boardShape, toldTo, Obeys};
+
+// kind is the order's place in `aims::Order`, from 0 on, and id a timer's, 0 to 2; of the other arguments it takes those that it has.
+#[repr(C)]
+pub struct Ordered {
+    pub kind: u8,
+    pub id: u8,
+    pub pin: u8,
+    pub value: u8,
+    pub address: u16,
+    pub cycle: u64,
+}
+
+// number, what, flags and value are those of a timer's reply. zero, one and two say what each timer then replies to `next`; written
+// counts there the bytes that the order wrote in its area.
+#[repr(C)]
+pub struct Replied {
+    pub number: u8,
+    pub what: u8,
+    pub flags: u8,
+    pub value: u64,
+    pub zero: Reply,
+    pub one: Reply,
+    pub two: Reply,
+}
+
+// The board after an order, and the reply.
+pub struct Moved {
+    pub board: Board,
+    pub reply: Replied,
+}
+
+// The order that the numbers name, if they name one.
+pub enum Meant {
+    Known(Order),
+    Unknown,
+}
+
+impl Ordered {
+    // Yields the order, to a timer or with its id passed over.
+    fn to(self, id: Id) -> Meant
+        ensures { λ r. ⌜ r ≡ meantAt (orders id self) (self .kind) ⌝ }
+    {
+        let kind = self.kind;
+        match kind {
+            0 => Meant::Known(Order::Advance(id)),
+            1 => Meant::Known(Order::Next(id)),
+            2 => Meant::Known(Order::Reset(id)),
+            3 => Meant::Known(Order::Edge(id, self.pin, self.value)),
+            4 => Meant::Known(Order::Route(id, self.value)),
+            5 => Meant::Known(Order::Output(id, self.value)),
+            6 => Meant::Known(Order::Read(self.address)),
+            7 => Meant::Known(Order::Peek(self.address)),
+            8 => Meant::Known(Order::Write(self.address, self.value)),
+            9 => Meant::Known(Order::Sleep(self.value)),
+            10 => Meant::Known(Order::Wake),
+            11 => Meant::Known(Order::Reduce(self.value)),
+            12..=255 => Meant::Unknown,
+        }
+    }
+
+    // Yields the order.
+    pub fn order(self) -> Meant
+        ensures { λ r. ⌜ r ≡ orderOf self ⌝ }
+    {
+        let id = self.id;
+        match id {
+            0 => self.to(Id::Zero),
+            1 => self.to(Id::One),
+            2 => self.to(Id::Two),
+            3..=255 => Meant::Unknown,
+        }
+    }
+}
+
+// Yields what a timer replies to `next`, beside the bytes written in its area.
+fn standing(t: Timer, written: usize) -> Reply
+    requires { ⌜ Running t ⌝ }
+    ensures { λ r. ⌜ r ≡ standingOf t written ⌝ }
+{
+    let answer = Answer::Next(t.next());
+    Reply::of(Outcome {
+        answer,
+        timer: t,
+        written,
+    })
+}
+
+// Yields an outcome's board, and its answer in numbers.
+fn numbered(o: board::outcome::Outcome) -> Moved
+    requires { ⌜ Valid (o .board) ⌝ }
+    ensures { λ r. ⌜ r ≡ movedOf o ⌝ }
+{
+    let answer = o.answer;
+    let board = o.board;
+    let written = o.written;
+    let timer = board.zero;
+    let zero = standing(timer, written.zero);
+    let one = standing(board.one, written.one);
+    let two = standing(board.two, written.two);
+    let r = Reply::of(Outcome {
+        answer,
+        timer,
+        written: 0,
+    });
+    let reply = Replied {
+        number: r.number,
+        what: r.what,
+        flags: r.flags,
+        value: r.value,
+        zero,
+        one,
+        two,
+    };
+    Moved { board, reply }
+}
+
+// Any order, by its numbers.
+fn any(
+    b: Board,
+    asked: Ordered,
+    zero: &mut [u8],
+    one: &mut [u8],
+    two: &mut [u8],
+) -> board::outcome::Outcome
+    requires { ⌜ Valid b ⌝ }
+    ensures { λ r. ⌜ Tells (toldTo b (orderOf asked) (asked .cycle) (areasOf (now (zero .entry)) (now (one .entry)) (now (two .entry)))) r (now (zero .exit)) (now (one .exit)) (now (two .exit)) ⌝ }
+{
+    let meant = asked.order();
+    match meant {
+        Meant::Known(o) => call(b, o, Cycle(asked.cycle), zero, one, two),
+        Meant::Unknown => refused(b, 255),
+    }
+}
+
+// An order by value: its numbers become the order, and its answer numbers.
+pub fn step(b: Board, asked: Ordered, zero: &mut [u8], one: &mut [u8], two: &mut [u8]) -> Moved
+    requires { ⌜ Valid b ⌝ }
+    ensures { λ r. ⌜ Obeys (toldTo b (orderOf asked) (asked .cycle) (areasOf (now (zero .entry)) (now (one .entry)) (now (two .entry)))) (r .board) (r .reply) (now (zero .exit)) (now (one .exit)) (now (two .exit)) ⌝ }
+{
+    numbered(any(b, asked, zero, one, two))
+}
+
+// Yields the shape of `Board`, so that a caller can compare its own.
+#[no_mangle]
+pub extern "C" fn paddlemauve_board_shape() -> Shape
+    ensures { λ r. ⌜ r ≡ boardShape ⌝ }
+{
+    Shape {
+        size: 1600,
+        align: 8,
+    }
+}
+
+// Yields a fresh board.
+#[no_mangle]
+pub extern "C" fn paddlemauve_board() -> Board
+    ensures { λ r. ⌜ (r ≡ freshBoard) × Valid r ⌝ }
+{
+    Board::new()
+}
+
+// Any order to a lent board, with an area for each timer.
+#[no_mangle]
+pub extern "C" fn paddlemauve_board_call(
+    b: &mut Board,
+    asked: Ordered,
+    zero: &mut [u8],
+    one: &mut [u8],
+    two: &mut [u8],
+) -> Replied
+    requires { ⌜ Valid (now b) ⌝ }
+    ensures { λ r. ⌜ Obeys (toldTo (now (b .entry)) (orderOf asked) (asked .cycle) (areasOf (now (zero .entry)) (now (one .entry)) (now (two .entry)))) (now (b .exit)) r (now (zero .exit)) (now (one .exit)) (now (two .exit)) ⌝ }
+{
+    let s = step(*b, asked, zero, one, two);
+    *b = s.board;
+    s.reply
+}
