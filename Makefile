@@ -5,7 +5,7 @@
 # make oracle MCS=../MCS                          the Rust as judge; MCS is a checkout of GabePurc/MCS at fb281a0906
 # make oracle MCS=../MCS CALLS=10000000 SEED=7    a longer comparison, from another seed
 # make oracle MCS=../MCS BENCH=                   without the bench program: needs Rust alone
-# make bindings [MCS=../MCS]                      the static library, the Rust crate over it, and its tests
+# make bindings [MCS=../MCS]                      the static libraries, the Rust crate over them, and its tests
 # make simavr                                     AVR programs on simavr with the proved timers; needs libsimavr-dev, gcc-avr, avr-libc
 # make speed MCS=../MCS                           the timer beside the Rust, in nanoseconds and instructions
 
@@ -19,6 +19,7 @@ BENCH ?= target/bin/bench
 ORACLE := oracle/target/release
 
 LIBRARY := target/staticlib/libshell.a
+DOORLOG := target/staticlib/libdoorlog.a
 WARN := -Wall -Wextra -Wpedantic -Werror
 
 CARGO := MCS="$(abspath $(MCS))" cargo
@@ -62,6 +63,7 @@ against-bench: $(BENCH)
 
 library:
 	rt staticlib shell
+	rt staticlib doorlog
 
 # With MCS the crate is also compared with the Rust; bindings/README.md has more.
 bindings: library
@@ -74,6 +76,8 @@ bindings: library
 	target/board
 	$(CXX) $(WARN) -std=c++11 -o target/board -x c++ bindings/c/board.c -x none $(LIBRARY)
 	target/board
+	$(CC) $(WARN) -std=c11 -o target/doorlog bindings/c/doorlog.c $(LIBRARY) $(DOORLOG)
+	target/doorlog
 	$(CC) $(WARN) -std=c11 -o target/m328p bindings/c/m328p.c
 	@target/m328p | while read -r keys; do grep -qF "\"$$keys\"" oracle/src/script/presets.rs || { echo "bindings: paddlemauve_m328p.h has a timer that is no preset: $$keys" >&2; exit 1; }; done
 ifneq ($(MCS),)

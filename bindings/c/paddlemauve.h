@@ -1,5 +1,5 @@
-/* What crates/shell exports, with the timer of crates/counter, its configuration of crates/config, the watchdog of crates/oscillator and the board
- * of crates/board, for C and C++ on x86-64. */
+/* What crates/shell and crates/doorlog export, with the timer of crates/counter, its configuration of crates/config, the watchdog of crates/oscillator,
+ * the board of crates/board and the log of crates/log, for C and C++ on x86-64. Doors, logs and dumps are in libdoorlog.a, the rest is in libshell.a. */
 #ifndef PADDLEMAUVE_H
 #define PADDLEMAUVE_H
 
@@ -48,9 +48,16 @@ enum pm_refusal {
     PM_ASLEEP,               /* halted asleep: wake the timer first */
     PM_AREA_TOO_SMALL,       /* lend PM_AREA bytes */
     PM_LIST_LENGTH = 12,     /* a list of writes has PM_WRITE_BYTES an item */
-    PM_NOWHERE = 16,         /* on the board: neither GTCCR's address nor a timer's */
+    PM_NO_RECORD,            /* a log is of whole records as the calls wrote them, at most 2^30 bytes */
+    PM_RECORD_ORDER,         /* a dump's records are in the order of their cycles: give those of one timer */
+    PM_RECORD_TOO_LATE,      /* a dump's cycles end at 2^48 - 1: start them lower */
+    PM_NOWHERE,              /* on the board: neither GTCCR's address nor a timer's */
     PM_PERIOD,               /* a watchdog's prescaler is 0 to 9 */
     PM_TOO_FAR_APART,        /* two edges 32,767 ticks or more apart: ask for nearer ones, or divide the way */
+    PM_LOG_FULL,             /* 6,000 records are held: read and release some of the oldest first */
+    PM_NOT_HELD,             /* release at most as many as are held */
+    PM_LOG_AREA,             /* lend the log PM_LOG_BYTES */
+    PM_RULE,                 /* hold, quiet and cap are 1 to 2^40 cycles, and a cap is no shorter than the hold */
     PM_NO_CALL = 255         /* the kind is no enum pm_kind */
 };
 
@@ -200,6 +207,78 @@ static inline struct pm_record pm_read_record(const uint8_t *bytes)
     }
     return r;
 }
+
+/* A record's PM_RECORD bytes, as a call would write them; of a flag record's lines the low five bits, of a trigger the low four. */
+static inline void pm_write_record(uint8_t *bytes, struct pm_record r)
+{
+    int i;
+    uint64_t word = (uint64_t)r.kind << 62 | (r.cycle & (((uint64_t)1 << 62) - 1));
+    for (i = 0; i < 8; i++) bytes[i] = (uint8_t)(word >> 8 * (7 - i));
+    bytes[8] = bytes[9] = 0;
+    if (r.kind == PM_PIN) {
+        bytes[8] = r.pin;
+        bytes[9] = (uint8_t)(r.enable << 7 | r.value << 6);
+    } else if (r.kind == PM_FLAGS) {
+        bytes[8] = r.flags;
+        bytes[9] = (uint8_t)(r.lines << 3);
+    } else if (r.kind == PM_TRIGGER) {
+        bytes[8] = (uint8_t)(r.trigger << 4 | r.id >> 4);
+        bytes[9] = (uint8_t)(r.id << 4);
+    } else {
+        bytes[9] = r.timeout;
+    }
+}
+
+/* A door under a service rule: rule one, or with terms.two rule two. It comes from paddlemauve_door_one or paddlemauve_door_two and is replaced by what each
+ * edge leaves. */
+struct pm_door {
+    struct { bool two; uint64_t hold, quiet, cap; } terms;
+    bool holding;
+    uint64_t first, rearmed, due, latest;
+};
+
+/* number: 0, or an enum pm_refusal; due: the cycle at which the close is due, where pending; door: to be kept, of a refused rule one of the shortest hold. */
+struct pm_doored { uint8_t number; bool pending; uint64_t due; struct pm_door door; };
+
+struct pm_doored paddlemauve_door_one(uint64_t hold);
+struct pm_doored paddlemauve_door_two(uint64_t hold, uint64_t quiet, uint64_t cap);
+struct pm_doored paddlemauve_door_edge(struct pm_door door, uint64_t cycle);
+
+/* How many records a log holds at most, and the bytes of its area. */
+enum { PM_LOG_PLACES = 6000, PM_LOG_BYTES = 60000 };
+
+/* A log: the place of the next record, and how many are held. It comes from paddlemauve_log and is replaced by what each call leaves. */
+struct pm_log { size_t next, held; };
+
+/* number: 0, or an enum pm_refusal; log: to be kept. */
+struct pm_logged { uint8_t number; struct pm_log log; };
+
+/* A record's bytes. */
+struct pm_entry { uint8_t bytes[PM_RECORD]; };
+
+struct pm_log paddlemauve_log(void);
+struct pm_logged paddlemauve_log_add(struct pm_log log, struct pm_area area, struct pm_entry entry);
+struct pm_logged paddlemauve_log_release(struct pm_log log, struct pm_list area, size_t count);
+size_t paddlemauve_log_count(struct pm_log log);
+size_t paddlemauve_log_oldest(struct pm_log log); /* its place; where none is held, that of the next */
+
+/* The entry of PM_RECORD bytes, as a call wrote them. */
+static inline struct pm_entry pm_entry_of(const uint8_t *bytes)
+{
+    struct pm_entry entry;
+    int i;
+    for (i = 0; i < PM_RECORD; i++) entry.bytes[i] = bytes[i];
+    return entry;
+}
+
+/* number: 0, or an enum pm_refusal; too_short: whether out has fewer bytes than pm_dump_room says. Of either nothing is written. */
+struct pm_dumped { uint8_t number; bool too_short; uint64_t written; };
+
+/* The dump of a log of records for a waveform viewer. */
+struct pm_dumped paddlemauve_dump(struct pm_list log, struct pm_area out);
+
+/* The bytes that hold the dump of any log of so many bytes. */
+static inline size_t pm_dump_room(size_t log) { return 6954 + 32 * (log / PM_RECORD + 1); }
 
 #ifdef __cplusplus
 }

@@ -1,4 +1,4 @@
-//! Links `target/staticlib/libshell.a` of the repository, or of the folder that PADDLEMAUVE names.
+//! Links `libshell.a` and `libdoorlog.a` of the repository's `target/staticlib`, or of the folder that PADDLEMAUVE names.
 
 use std::path::PathBuf;
 use std::{env, process};
@@ -9,12 +9,14 @@ fn main() {
     let folder = env::var_os("PADDLEMAUVE")
         .map(PathBuf::from)
         .unwrap_or_else(|| PathBuf::from(here).join("../../target/staticlib"));
-    let archive = folder.join("libshell.a");
-    println!("cargo:rerun-if-changed={}", archive.display());
-    if !archive.is_file() {
-        eprintln!("paddlemauve: there is no {}: run `rt staticlib shell` in the repository", archive.display());
-        process::exit(1);
-    }
     println!("cargo:rustc-link-search=native={}", folder.display());
-    println!("cargo:rustc-link-lib=static=shell");
+    for name in ["shell", "doorlog"] {
+        let archive = folder.join(format!("lib{name}.a"));
+        println!("cargo:rerun-if-changed={}", archive.display());
+        if !archive.is_file() {
+            eprintln!("paddlemauve: there is no {}: run `rt staticlib {name}` in the repository", archive.display());
+            process::exit(1);
+        }
+        println!("cargo:rustc-link-lib=static={name}");
+    }
 }

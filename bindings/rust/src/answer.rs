@@ -27,7 +27,7 @@ pub enum Call {
     Reset,
 }
 
-/// Why a call was turned away. Nothing has changed then: neither the timer, board or watchdog nor a byte of an area.
+/// Why a call was turned away. Nothing has changed then: neither the timer, board, watchdog, door or log nor a byte of an area.
 #[derive(Clone, Copy, Debug, PartialEq, Eq)]
 pub enum Refusal {
     /// 1: the configuration breaks a rule.
@@ -46,12 +46,26 @@ pub enum Refusal {
     Asleep,
     /// 8: the records exceed the area.
     AreaTooSmall,
+    /// 13: a log's length is no multiple of ten or over 2^30, or a record of it is none.
+    Record = 13,
+    /// 14: a record's cycle is below the one before it.
+    RecordOrder,
+    /// 15: a record's cycle is over 2^48 − 1.
+    RecordTooLate,
     /// 16: no timer of the board has a register at the address, and it is not GTCCR's.
-    Nowhere = 16,
+    Nowhere,
     /// 17: a watchdog's prescaler from 10 to 15.
     Period,
     /// 18: two edges that lie 32,767 ticks or more apart.
     TooFarApart,
+    /// 19: the log holds 6,000 records.
+    LogFull,
+    /// 20: the log holds fewer records than are to be released.
+    NotHeld,
+    /// 21: the log's area has not 60,000 bytes.
+    LogArea,
+    /// 22: a hold, quiet or cap of zero or over 2^40, or a cap below the hold.
+    Rule,
 }
 
 /// The next event: its cycle, and the flags, as TIFR bits, that its tick will raise.
@@ -100,9 +114,16 @@ impl Refusal {
             Self::EventDue => "advance to the cycle first",
             Self::Asleep => "wake the timer first",
             Self::AreaTooSmall => "lend a larger area: 110 bytes hold any call's records",
+            Self::Record => "give whole records as the calls wrote them, at most 2^30 bytes of them",
+            Self::RecordOrder => "give the records of one timer, in the order of their cycles",
+            Self::RecordTooLate => "start the cycles lower: a dump's end at 2^48 - 1",
             Self::Nowhere => "give the data address of GTCCR or of a timer's register, TIFRn or TIMSKn",
             Self::Period => "give a prescaler of 0 to 9",
             Self::TooFarApart => "ask for edges that lie nearer each other, or divide the way",
+            Self::LogFull => "read and release some of the oldest records first",
+            Self::NotHeld => "release at most as many as are held",
+            Self::LogArea => "lend an area of 60,000 bytes",
+            Self::Rule => "give 1 to 2^40 cycles, and a cap no shorter than the hold",
         }
     }
 
@@ -116,10 +137,17 @@ impl Refusal {
             6 => Self::EventDue,
             7 => Self::Asleep,
             8 => Self::AreaTooSmall,
+            13 => Self::Record,
+            14 => Self::RecordOrder,
+            15 => Self::RecordTooLate,
             16 => Self::Nowhere,
             17 => Self::Period,
             18 => Self::TooFarApart,
-            _ => unreachable!("refusals are 1 to 8 and 16 to 18, this is {number}"),
+            19 => Self::LogFull,
+            20 => Self::NotHeld,
+            21 => Self::LogArea,
+            22 => Self::Rule,
+            _ => unreachable!("no call of this crate is refused with {number}"),
         }
     }
 }

@@ -7,7 +7,9 @@ use std::sync::Once;
 use crate::answer::{Answer, Call, Next, Outcome, Refusal};
 use crate::board::{Board, Id};
 use crate::config::Config;
+use crate::door::Door;
 use crate::raw::{self, Shape};
+use crate::ring::Ring;
 use crate::timer::{State, Timer};
 use crate::watchdog::{Watchdog, WatchdogState};
 
@@ -168,4 +170,48 @@ fn watched() -> Result<(), Refusal> {
     );
     assert_eq!(area[10..], [0xa5; 14], "the library wrote past its record");
     Ok(())
+}
+
+/// A door whose edges leave another number in each field.
+const DOOR: raw::Kept = raw::Kept {
+    terms: raw::Terms { two: true, hold: 100, quiet: 30, cap: 250 },
+    holding: true,
+    first: 7,
+    rearmed: 40,
+    due: 140,
+    latest: 60,
+};
+
+/// Compares the library's door with this crate's, once.
+///
+/// # Panics
+/// Where they differ.
+pub fn check_door() {
+    static CHECKED: Once = Once::new();
+    CHECKED.call_once(|| {
+        let mut door = Door::start_two(100, 30, 250).expect("the library takes the rule");
+        for cycle in [7, 40, 60] {
+            door.edge(cycle).expect("the library takes the edge");
+        }
+        assert_eq!(*door.raw(), DOOR, "the library's door does not read as ours");
+    });
+}
+
+/// Compares the library's log with this crate's, once.
+///
+/// # Panics
+/// Where they differ.
+pub fn check_ring() {
+    static CHECKED: Once = Once::new();
+    CHECKED.call_once(|| {
+        let mut area = vec![0xa5; Ring::BYTES];
+        let mut ring = Ring::start();
+        for record in [[1, 2, 3, 4, 5, 6, 7, 8, 9, 10], [11, 12, 13, 14, 15, 16, 17, 18, 19, 20]] {
+            ring.add(&mut area, &record).expect("the library takes the record");
+        }
+        ring.release(&area, 1).expect("the library releases a record");
+        assert_eq!(*ring.raw(), raw::Ring { next: 2, held: 1 }, "the library's log does not read as ours");
+        assert!((1..=20).eq(area[..20].iter().copied()), "the library's area is not that of the reading");
+        assert_eq!(area[20], 0xa5, "the library wrote past its records");
+    });
 }

@@ -1,6 +1,6 @@
-//! The proved AVR bench timer and its watchdog, held and called from Rust.
+//! The proved AVR bench timer, its watchdog, the door rules, the log and its dump, held and called from Rust.
 //!
-//! The timer's work is the static library of crate `shell`, every function of which is proved to meet its contract. This
+//! The work is that of the static libraries of the crates `shell` and `doorlog`, every function of which is proved to meet its contract. This
 //! crate declares its types again, and is all that is not proved between that contract and a caller: it turns arguments
 //! into numbers and answers into enums, and checks once, when the first timer is made, that both sides lay the types out
 //! alike.
@@ -21,17 +21,23 @@
 mod answer;
 mod board;
 mod config;
+mod door;
+mod dump;
 mod layout;
 mod list;
 mod raw;
 mod record;
+mod ring;
 mod timer;
 mod watchdog;
 
 pub use answer::{Answer, Call, Next, Outcome, Refusal};
 pub use board::{Board, BoardOutcome, Id, Order};
 pub use config::{Capture, Clocks, Compare, Config, Layout};
+pub use door::Door;
+pub use dump::{dump, dump_into, dump_room};
 pub use list::{Why, Write, Written};
 pub use record::{records, Event, Record, EVENT, RECORD};
+pub use ring::Ring;
 pub use timer::{Advanced, Distance, State, Timer};
 pub use watchdog::{Watchdog, WatchdogAdvanced, WatchdogState};

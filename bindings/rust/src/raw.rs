@@ -1,5 +1,5 @@
-//! What `crates/shell` exports, in C's layout: the configuration of `crates/config`, the timer of `crates/counter`, the
-//! watchdog of `crates/oscillator`, the board of `crates/board`, and `asked.rt`, `boards.rt`, `exports.rt`, `lists.rt`, `shifts.rt` and `watchdogs.rt`.
+//! What `crates/shell` and `crates/doorlog` export, in C's layout: the configuration of `crates/config`, the timer of `crates/counter`, the
+//! watchdog of `crates/oscillator`, the board of `crates/board`, the log of `crates/log`, and the structs that the two crates name themselves.
 
 #[repr(C)]
 #[derive(Clone, Copy, Debug, PartialEq, Eq)]
@@ -295,6 +295,65 @@ pub struct Replied {
     pub timers: [Reply; 3],
 }
 
+#[repr(C)]
+#[derive(Clone, Copy, Debug, PartialEq, Eq)]
+pub struct Terms {
+    pub two: bool,
+    pub hold: u64,
+    pub quiet: u64,
+    pub cap: u64,
+}
+
+#[repr(C)]
+#[derive(Clone, Copy, Debug, PartialEq, Eq)]
+pub struct Kept {
+    pub terms: Terms,
+    pub holding: bool,
+    pub first: u64,
+    pub rearmed: u64,
+    pub due: u64,
+    pub latest: u64,
+}
+
+/// Of a door's call.
+#[repr(C)]
+#[derive(Clone, Copy)]
+pub struct Told {
+    pub number: u8,
+    pub pending: bool,
+    pub due: u64,
+    pub door: Kept,
+}
+
+#[repr(C)]
+#[derive(Clone, Copy, Debug, PartialEq, Eq)]
+pub struct Ring {
+    pub next: usize,
+    pub held: usize,
+}
+
+/// Of a log's call.
+#[repr(C)]
+#[derive(Clone, Copy)]
+pub struct Logged {
+    pub number: u8,
+    pub ring: Ring,
+}
+
+#[repr(C)]
+#[derive(Clone, Copy)]
+pub struct Entry {
+    pub bytes: [u8; 10],
+}
+
+#[repr(C)]
+#[derive(Clone, Copy)]
+pub struct Dumped {
+    pub number: u8,
+    pub short: bool,
+    pub written: u64,
+}
+
 extern "C" {
     pub fn paddlemauve_shape() -> Shape;
     pub fn paddlemauve_start(config: Config) -> Begun;
@@ -312,4 +371,13 @@ extern "C" {
     pub fn paddlemauve_watchdog_serve(w: Watchdog, cycle: u64) -> Watched;
     pub fn paddlemauve_watchdog_read(w: Watchdog, cycle: u64) -> Watched;
     pub fn paddlemauve_watchdog_write(w: Watchdog, value: u8, cycle: u64) -> Watched;
+    pub fn paddlemauve_door_one(hold: u64) -> Told;
+    pub fn paddlemauve_door_two(hold: u64, quiet: u64, cap: u64) -> Told;
+    pub fn paddlemauve_door_edge(door: Kept, cycle: u64) -> Told;
+    pub fn paddlemauve_log() -> Ring;
+    pub fn paddlemauve_log_add(ring: Ring, area: Area, entry: Entry) -> Logged;
+    pub fn paddlemauve_log_release(ring: Ring, area: List, count: usize) -> Logged;
+    pub fn paddlemauve_log_count(ring: Ring) -> usize;
+    pub fn paddlemauve_log_oldest(ring: Ring) -> usize;
+    pub fn paddlemauve_dump(log: List, out: Area) -> Dumped;
 }

@@ -38,6 +38,23 @@ impl Record {
         };
         Self { cycle: word & (1 << 62) - 1, event }
     }
+
+    /// Its ten bytes, as a call would write them: of a cycle the low 62 bits.
+    pub fn bytes(&self) -> [u8; RECORD] {
+        let (kind, body) = match self.event {
+            Event::Pin { pin, enable, value } => {
+                (0, u16::from(pin) << 8 | u16::from(enable) << 7 | u16::from(value) << 6)
+            }
+            Event::Flags { raised, lines } => (1, u16::from(raised) << 8 | u16::from(lines << 3)),
+            Event::Trigger { trigger, id } => (2, u16::from(trigger) << 12 | u16::from(id) << 4),
+            Event::Watchdog { reset } => (3, 1 + u16::from(reset)),
+        };
+        let word = kind << 62 | self.cycle & (1 << 62) - 1;
+        let mut bytes = [0; RECORD];
+        bytes[..8].copy_from_slice(&u64::to_be_bytes(word));
+        bytes[8..].copy_from_slice(&u16::to_be_bytes(body));
+        bytes
+    }
 }
 
 /// The records of the bytes that a call wrote, `&area[..written]`.

@@ -26,10 +26,17 @@ fn numbers() {
         Refusal::EventDue,
         Refusal::Asleep,
         Refusal::AreaTooSmall,
+        Refusal::Record,
+        Refusal::RecordOrder,
+        Refusal::RecordTooLate,
         Refusal::Period,
         Refusal::TooFarApart,
+        Refusal::LogFull,
+        Refusal::NotHeld,
+        Refusal::LogArea,
+        Refusal::Rule,
     ];
-    assert_eq!(all.map(Refusal::number), [1, 2, 3, 4, 5, 6, 7, 8, 17, 18]);
+    assert_eq!(all.map(Refusal::number), [1, 2, 3, 4, 5, 6, 7, 8, 13, 14, 15, 17, 18, 19, 20, 21, 22]);
     assert_eq!(Refusal::EventDue.to_string(), "refused 6: advance to the cycle first");
 }
 

@@ -17,12 +17,12 @@ pub enum Rule {
 
 // The rule, whether there is a hold, its first and its last rearming edge, when its close is due, and the latest accepted cycle.
 pub struct Door {
-    rule: Rule,
-    holding: bool,
-    first: Cycle,
-    rearmed: Cycle,
-    due: Cycle,
-    latest: Cycle,
+    pub rule: Rule,
+    pub holding: bool,
+    pub first: Cycle,
+    pub rearmed: Cycle,
+    pub due: Cycle,
+    pub latest: Cycle,
 }
 
 // What `set` answers: the number 22 alone, or a door.

@@ -12,14 +12,16 @@ pub const PLACES: usize = 6000;
 
 pub const BYTES: usize = 60000;
 
+#[repr(C)]
 pub struct Ring {
     // The place of the next record, 0 to 5,999.
-    next: usize,
+    pub next: usize,
     // How many records are held, 0 to 6,000.
-    held: usize,
+    pub held: usize,
 }
 
 // What a call answers: 0, or the number of its refusal; and the log after it.
+#[repr(C)]
 pub struct Answer {
     pub number: u8,
     pub ring: Ring,
