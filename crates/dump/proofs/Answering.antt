@@ -14,10 +14,11 @@ use Rattle.verdict.specs.Check.{fresh, checked, refusalIn, pinsIn}
 use Rattle.verdict.proofs.Claims.{whole-refusal, whole-pins}
 use Rattle.dump.specs.declared.Answer.the-variants as answer
 use Rattle.dump.specs.declared.writer.Writer.{Writer}
-use Rattle.dump.specs.Dump.{Wrote, header, noCycle, changeLines, dumpOf}
+use Rattle.figures.specs.Figures.{Wrote}
+use Rattle.dump.specs.Dump.{header, noCycle, changeLines, dumpOf}
 use Rattle.dump.specs.Pieces.{headerOf, begun, writtenBy, after}
 use Rattle.dump.specs.Answers.{HeaderAnswer, PieceAnswer, DumpAnswer}
-use Rattle.dump.proofs.Writing.{wrote-front}
+use Rattle.figures.proofs.Writing.{wrote-front}
 use Rattle.dump.proofs.Claims.{written-log, header-is}
 
 -- ---- the header

@@ -20,7 +20,8 @@ use Rattle.verdict.specs.Check.{fresh, pinsIn}
 use Rattle.verdict.specs.Claims.{checkedAll}
 use Rattle.verdict.proofs.Claims.{changes-append, changes-in, by-pieces}
 use Rattle.dump.specs.declared.writer.Writer.{Writer}
-use Rattle.dump.specs.Dump.{codes, text, digits, decimal, varLine, varLines, noCycle, timeLine, valueLine, changeLines, lastCycle, header, dumpOf}
+use Rattle.figures.specs.Figures.{codes, text, digits, decimal}
+use Rattle.dump.specs.Dump.{varLine, varLines, noCycle, timeLine, valueLine, changeLines, lastCycle, header, dumpOf}
 use Rattle.dump.specs.Pieces.{varsOf, headerOf, begun, writtenBy, after}
 use Rattle.dump.specs.Claims.{writtenAll, passes, ByPieces, linesIn, numberIn, readLines, readBack, ReadsBack, Example}
 use Rattle.dump.proofs.Lines.{lines-append, last-append}

@@ -12,9 +12,10 @@ use Rattle.pieces.specs.declared.Next.{Next}
 use Rattle.pieces.specs.Pieces.{partAfter, wholes, Cuts}
 use Rattle.verdict.specs.Changes.{changeOf, changes}
 use Rattle.dump.specs.declared.writer.Writer.{Writer}
-use Rattle.dump.specs.Dump.{changeLines, lastCycle, Wrote}
+use Rattle.figures.specs.Figures.{Wrote}
+use Rattle.dump.specs.Dump.{changeLines, lastCycle}
 use Rattle.dump.specs.Pieces.{writtenBy, after}
-use Rattle.dump.proofs.Writing.{Writing, writing-more, writing-all}
+use Rattle.figures.proofs.Writing.{Writing, writing-more, writing-all}
 use Rattle.dump.proofs.Lines.{lines-ahead, last-ahead, room-ahead}
 
 module _ {p : Part} {bytes : List ℕ} {at : ℕ} {n : Next} (cut : Cuts p bytes at n) where

@@ -11,7 +11,8 @@ use Rattle.verdict.specs.Refusal.{refusalOf}
 use Rattle.verdict.specs.Check.{fresh, pinsIn}
 use Rattle.verdict.specs.Claims.{checkedAll}
 use Rattle.dump.specs.declared.writer.Writer.{Writer}
-use Rattle.dump.specs.Dump.{text, dumpOf}
+use Rattle.figures.specs.Figures.{text}
+use Rattle.dump.specs.Dump.{dumpOf}
 use Rattle.dump.specs.Pieces.{headerOf, begun, writtenBy, after}
 
 -- the lines of pieces one after the other

@@ -1,32 +1,10 @@
 -- A record log as a value change dump (02, 2.3): the text byte by byte.
 use Prim.Native.Nat.{ℕ, zero, suc, _+_, _*_, _/_, _%_, _^_}
-use Prim.Native.String.{String, len, charAt}
-use Prim.Native.Char.{code}
-use mathlib.Core.Path.{_≡_}
 use mathlib.Core.Bool.{cond}
 use mathlib.Core.List.{List, [], _∷_, _++_}
-use lib.Dec.{eqb, ltb}
-use lib.ListN.{length}
-use lib.Seq.{sets}
+use lib.Dec.{eqb}
+use Rattle.figures.specs.Figures.{text, decimal}
 use Rattle.verdict.specs.Changes.{Change, changesOf, has}
-
--- the ASCII codes of a text's first n characters
-unfoldable pub codes : String → ℕ → List ℕ
-codes s zero = []
-codes s (suc n) = codes s n ++ code (charAt s n) ∷ []
-
--- a text as bytes
-abbrev pub text : String → List ℕ
-text s = codes s (len s)
-
--- the last decimal digits of a number, at most k, without leading zeros
-unfoldable pub digits : ℕ → ℕ → List ℕ
-digits zero n = []
-digits (suc k) n = cond (ltb n 10) [] (digits k (n / 10)) ++ (48 + n % 10) ∷ []
-
--- a number in decimal: it has at most n + 1 digits
-unfoldable pub decimal : ℕ → List ℕ
-decimal n = digits (suc n) n
 
 -- the last five decimal digits of a number, with leading zeros
 abbrev pub five : ℕ → List ℕ
@@ -70,8 +48,3 @@ header cs = text "$timescale 1 ps $end\n" ++ varLines cs 256 ++ text "$enddefini
 -- the dump of a log
 unfoldable pub dumpOf : List ℕ → List ℕ
 dumpOf log = header (changesOf log) ++ changeLines noCycle (changesOf log)
-
--- bytes at a place of an area, and the place after them
-pub record Wrote (old new : List ℕ) (at r : ℕ) (bytes : List ℕ) : Type 0 where
-  pub place : r ≡ at + length bytes
-  pub area : new ≡ sets old at bytes

@@ -6,7 +6,8 @@ use lib.ListN.{getD}
 use Rattle.pieces.specs.Pieces.{start, partAfter, wholes}
 use Rattle.verdict.specs.Changes.{changes}
 use Rattle.dump.specs.declared.writer.Writer.{Writer}
-use Rattle.dump.specs.Dump.{text, varLine, noCycle, changeLines, lastCycle}
+use Rattle.figures.specs.Figures.{text}
+use Rattle.dump.specs.Dump.{varLine, noCycle, changeLines, lastCycle}
 
 -- a line for each pin below n that is driven, by rising number
 unfoldable pub varsOf : List Bool → ℕ → List ℕ

@@ -1,39 +1,15 @@
 // Bytes of the dump at a place of the area: texts, decimal numbers, and the lines that they make.
 
+use figures::number;
+use figures::put;
 ghost use mathlib.Core.Path.{_≡_};
 ghost use mathlib.Core.Bool.{cond};
 ghost use mathlib.Core.List.{_∷_, [], _++_};
 ghost use Prim.Native.Nat.{_+_, _*_, _/_, _≤_, _<_, _^_};
 ghost use lib.ListN.{length};
 ghost use Rattle.verdict.specs.Changes.{stateOf};
-ghost use Rattle.dump.specs.Dump.{text, decimal, varLine, timeLine, five, Wrote};
-
-// Puts some bytes at a place; yields the place after them.
-pub fn put(out: &mut [u8], at: usize, bytes: &[u8]) -> usize
-    requires { ⌜ at + length (now bytes) ≤ length (now out) ⌝ }
-    ensures { λ r. ⌜ Wrote (now (out .entry)) (now (out .exit)) at r (now (bytes .entry)) ⌝ }
-{
-    let mut i = 0;
-    while i < bytes.len() {
-        out[at + i] = bytes[i];
-        i += 1;
-    }
-    at + i
-}
-
-// Puts a number in decimal; yields the place after it.
-fn number(out: &mut [u8], at: usize, n: u64) -> usize
-    requires { ⌜ at + length (decimal n) ≤ length (now out) ⌝ }
-    ensures { λ r. ⌜ Wrote (now (out .entry)) (now (out .exit)) at r (decimal n) ⌝ }
-{
-    if n < 10 {
-        out[at] = (48 + n % 10) as u8;
-        return at + 1;
-    }
-    let next = number(out, at, n / 10);
-    out[next] = (48 + n % 10) as u8;
-    next + 1
-}
+ghost use Rattle.figures.specs.Figures.{text, decimal, Wrote};
+ghost use Rattle.dump.specs.Dump.{varLine, timeLine, five};
 
 // Puts the last five digits of a number, zeros too.
 fn five(out: &mut [u8], at: usize, n: u64) -> usize

@@ -1,12 +1,13 @@
 // The lines before the changes.
 
-use crate::text::put;
 use crate::text::var_line;
+use figures::put;
 ghost use mathlib.Core.Bool.{cond};
 ghost use mathlib.Core.List.{[]};
 ghost use Prim.Native.Nat.{_+_, _≤_, _<_};
 ghost use lib.ListN.{length};
-ghost use Rattle.dump.specs.Dump.{varLine, Wrote};
+ghost use Rattle.figures.specs.Figures.{Wrote};
+ghost use Rattle.dump.specs.Dump.{varLine};
 ghost use Rattle.dump.specs.Pieces.{varsOf, headerOf};
 
 // Puts the line that declares a pin's wire, where it is wanted.

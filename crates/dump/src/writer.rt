@@ -11,7 +11,8 @@ ghost use Prim.Native.Nat.{_+_, _*_, _/_, _≤_};
 ghost use lib.ListN.{length};
 ghost use Rattle.pieces.specs.Pieces.{wholes};
 ghost use Rattle.verdict.specs.Changes.{changeOf};
-ghost use Rattle.dump.specs.Dump.{changeLines, lastCycle, Wrote};
+ghost use Rattle.figures.specs.Figures.{Wrote};
+ghost use Rattle.dump.specs.Dump.{changeLines, lastCycle};
 ghost use Rattle.dump.specs.Pieces.{begun, writtenBy, after};
 
 // What is kept of the pieces so far: the record that is not whole, and the cycle of the last time line.

@@ -1,5 +1,5 @@
 use native.Mathlib.Omega.{arith}
-use Rattle.dump.proofs.Writing.{wrote-then}
+use Rattle.figures.proofs.Writing.{wrote-then}
 use Rattle.dump.proofs.Answering.{number-is, pins-are, dump-refused, dump-short, dump-cramped, dump-written, dump-is}
 use borrow.Author.Needs.{needs}
 use Rattle.dump.proofs.dump.Statement.{statement}

@@ -1,4 +1,4 @@
-use Rattle.dump.proofs.Writing.{wrote-then}
+use Rattle.figures.proofs.Writing.{wrote-then}
 use borrow.Author.Needs.{needs}
 use Rattle.dump.proofs.text.around.Statement.{statement}
 use Rattle.dump.proofs.text.around.Tie as tie

@@ -1,5 +1,6 @@
 use native.Mathlib.Omega.{arith}
-use Rattle.dump.proofs.Writing.{time-five, time-five-length, wrote-then}
+use Rattle.figures.proofs.Writing.{wrote-then}
+use Rattle.dump.proofs.Writing.{time-five, time-five-length}
 use borrow.Author.Needs.{needs}
 use Rattle.dump.proofs.text.time.Statement.{statement}
 use Rattle.dump.proofs.text.time.Tie as tie

@@ -1,7 +1,9 @@
 use native.Mathlib.Omega.{arith}
 use borrow.Author.Tests.{eq-eqb, ne-eqb}
-use Rattle.dump.specs.Dump.{codes, timeLine}
-use Rattle.dump.proofs.Writing.{wrote-none, wrote-then, time-length}
+use Rattle.figures.specs.Figures.{codes}
+use Rattle.dump.specs.Dump.{timeLine}
+use Rattle.figures.proofs.Writing.{wrote-none, wrote-then}
+use Rattle.dump.proofs.Writing.{time-length}
 use borrow.Author.Needs.{needs}
 use Rattle.dump.proofs.text.time_line.Statement.{statement}
 use Rattle.dump.proofs.text.time_line.Tie as tie

@@ -1,5 +1,6 @@
-use Rattle.dump.proofs.Writing.{pin-length, length-around}
-use Rattle.dump.specs.Dump.{codes, decimal}
+use Rattle.figures.proofs.Writing.{length-around}
+use Rattle.dump.proofs.Writing.{pin-length}
+use Rattle.figures.specs.Figures.{codes, decimal}
 use mathlib.Core.List.{[], _∷_}
 use native.Mathlib.Omega.{arith}
 use Prim.Native.Nat.{_/_}

@@ -1,8 +1,10 @@
-use Rattle.dump.proofs.Writing.{wrote-regroup}
-use Rattle.dump.specs.Dump.{text}
+use Rattle.figures.proofs.Writing.{wrote-regroup}
+use Rattle.figures.specs.Figures.{text}
 use mathlib.Core.List.{_++_}
-use Rattle.dump.proofs.Writing.{pin-length, wrote-then}
-use Rattle.dump.specs.Dump.{codes, decimal, varLine}
+use Rattle.figures.proofs.Writing.{wrote-then}
+use Rattle.dump.proofs.Writing.{pin-length}
+use Rattle.figures.specs.Figures.{codes, decimal}
+use Rattle.dump.specs.Dump.{varLine}
 use lib.ListN.{length-append}
 use mathlib.Core.List.{append-assoc}
 use native.Mathlib.Omega.{arith}

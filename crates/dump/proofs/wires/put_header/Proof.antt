@@ -1,7 +1,7 @@
 use native.Mathlib.Omega.{arith}
 use Rattle.dump.specs.Pieces.{headerOf}
-use Rattle.dump.specs.Dump.{codes}
-use Rattle.dump.proofs.Writing.{wrote-then}
+use Rattle.figures.specs.Figures.{codes}
+use Rattle.figures.proofs.Writing.{wrote-then}
 use borrow.Author.Needs.{needs}
 use Rattle.dump.proofs.wires.put_header.Statement.{statement}
 use Rattle.dump.proofs.wires.put_header.Tie as tie

@@ -1,5 +1,5 @@
 use native.Mathlib.Omega.{arith}
-use Rattle.dump.proofs.Writing.{wrote-none}
+use Rattle.figures.proofs.Writing.{wrote-none}
 use borrow.Author.Needs.{needs}
 use Rattle.dump.proofs.wires.var_if.Statement.{statement}
 use Rattle.dump.proofs.wires.var_if.Tie as tie

@@ -1,5 +1,5 @@
-use Rattle.dump.proofs.Writing.{wrote-none, wrote-then}
-use Rattle.dump.specs.Dump.{Wrote}
+use Rattle.figures.proofs.Writing.{wrote-none, wrote-then}
+use Rattle.figures.specs.Figures.{Wrote}
 use Rattle.dump.specs.Pieces.{varsOf}
 use lib.ListN.{length}
 use native.Mathlib.Numerals.{add-one}

@@ -4,7 +4,7 @@ use native.Mathlib.Omega.{arith}
 use borrow.Author.Tests.{eq-eqb, ne-eqb, not-true, not-false}
 use Rattle.verdict.specs.Changes.{changeOf}
 use Rattle.dump.specs.Dump.{changeLines, lastCycle, valueLine}
-use Rattle.dump.proofs.Writing.{wrote-none, wrote-then}
+use Rattle.figures.proofs.Writing.{wrote-none, wrote-then}
 use borrow.Author.Needs.{needs}
 use Rattle.dump.proofs.writer.change.Statement.{statement}
 use Rattle.dump.proofs.writer.change.Tie as tie

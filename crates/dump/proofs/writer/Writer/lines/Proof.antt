@@ -1,5 +1,5 @@
 use Rattle.dump.proofs.Turns.{room-here, turn-text, turn-last, turn-room, text-ended, writer-ended}
-use Rattle.dump.proofs.Writing.{Writing, writing-none}
+use Rattle.figures.proofs.Writing.{Writing, writing-none}
 use Rattle.dump.specs.Dump.{changeLines, lastCycle}
 use Rattle.verdict.specs.Changes.{changes}
 use Rattle.pieces.proofs.Cuts.{wholes-length}

@@ -4,8 +4,8 @@ use lib.ListN.{length, take, length-set}
 use native.Mathlib.Omega.{arith}
 use mathlib.Core.Path.{_≡_, refl, ap, _∙_}
 use Prim.Native.Nat.{_-_, _≤_}
-use Rattle.dump.proofs.text.put.Statement.{statement}
-use Rattle.dump.proofs.text.put.Tie as tie
+use Rattle.figures.proofs.put.Statement.{statement}
+use Rattle.figures.proofs.put.Tie as tie
 
 -- the first i bytes are stored, and the area is as long as it was
 abbrev Inv-loop : tie.InvT-loop

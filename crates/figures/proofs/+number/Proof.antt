@@ -3,15 +3,15 @@ use mathlib.Core.Path.{refl, ap, _∙_}
 use mathlib.Core.List.{[], _∷_}
 use native.Mathlib.Omega.{arith}
 use lib.ListN.{length, length-set, length-append}
-use Rattle.dump.specs.Dump.{decimal}
-use Rattle.dump.proofs.Writing.{decimal-one, decimal-more, wrote-then}
+use Rattle.figures.specs.Figures.{decimal}
+use Rattle.figures.proofs.Writing.{decimal-one, decimal-more, wrote-then}
 use borrow.Fn.Kinds.{In}
 use borrow.Fn.PlainCycle.{Measures, is, falls, and}
-use Rattle.dump.proofs.text.number.Reads as number
-use Rattle.dump.proofs.text.number.Kinds as number-kinds
-use Rattle.dump.proofs.text.+number.Lts-number as number-lts
-use Rattle.dump.proofs.text.+number.{statement}
-use Rattle.dump.proofs.text.+number.Tie.{close}
+use Rattle.figures.proofs.number.Reads as number
+use Rattle.figures.proofs.number.Kinds as number-kinds
+use Rattle.figures.proofs.+number.Lts-number as number-lts
+use Rattle.figures.proofs.+number.{statement}
+use Rattle.figures.proofs.+number.Tie.{close}
 
 abbrev μ-number : Measures 1 number-kinds.ps ℕ
 μ-number κs a = a .1 .1 .0
