@@ -60,6 +60,7 @@ oracle:
 against-bench: $(BENCH)
 	$(ORACLE)/compare --program $(BENCH) $(CALLS) $(SEED)
 	$(ORACLE)/compare --watchdog $(BENCH) $(CALLS) $(SEED)
+	$(ORACLE)/compare --board $(BENCH) $(CALLS) $(SEED)
 
 library:
 	rt staticlib shell

@@ -14,6 +14,9 @@ trap 'rm -rf "$room"' EXIT
 calls=100
 seeds="4 30 31 94 103 121 157 179 360 544 555 571 599 641 697 825 912 1151 1429"
 
+# Those of the board: `generate --board SEED CALLS`.
+boards="149 255 298"
+
 # section TITLE: a heading, and an empty scheduler
 section() {
     printf '\n# ==== %s\nsched clear\n' "$1"
@@ -33,11 +36,11 @@ repeat() {
 }
 
 no_timer() {
-    printf '# ==== before any timer\nstate\nnext 0 110\nadvance 18446744073709551615 0\nread 46 0 110\nshift 0 1\n'
+    printf '# ==== before any timer\nstate\nnext 0 110\nadvance 18446744073709551615 0\nread 46 0 110\nshift 0 1\nboard state\nboard advance 0 0 110\nboard read 43 0 0\n'
 }
 
 readings() {
-    for name in T1 T2 T3 T4 T5 T6 T7 T8 T9 T10 bench refusals unreadable; do
+    for name in T1 T2 T3 T4 T5 T6 T7 T8 T9 T10 bench refusals unreadable board; do
         files "readings/$name.script"
     done
 }
@@ -46,6 +49,10 @@ sample() {
     for seed in $seeds; do
         section "random, seed $seed"
         $bin/generate "$seed" "$calls"
+    done
+    for seed in $boards; do
+        section "random board, seed $seed"
+        $bin/generate --board "$seed" "$calls"
     done
 }
 

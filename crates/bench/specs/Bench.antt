@@ -1,5 +1,8 @@
 -- What the program keeps from line to line.
+use Prim.Native.Nat.{_≤_}
 use Rattle.bench.specs.declared.bench.Bench.{Bench}
+use Rattle.bench.specs.declared.board_lines.Desk.{Desk}
+use Rattle.board.specs.State.{Valid as Board·Valid}
 use Rattle.counter.specs.Valid.{Valid}
 use Rattle.scheduler.specs.Scheduler.{Valid as Scheduler·Valid}
 use Rattle.oscillator.specs.State.{Valid as Watchdog·Valid}
@@ -9,3 +12,9 @@ pub record Sound (b : Bench) : Type 0 where
   pub timer : Valid (b .timer)
   pub watchdog : Watchdog·Valid (b .watchdog)
   pub scheduler : Scheduler·Valid (b .scheduler)
+  pub asked : b .asked .size ≤ 4096
+
+-- and of the board's
+pub record Whole (d : Desk) : Type 0 where
+  pub bench : Sound (d .bench)
+  pub board : Board·Valid (d .board)

@@ -1,5 +1,6 @@
 // What a script works on: one timer, one watchdog, one scheduler, and where reading and writing stand.
 
+use crate::board_asked::Asked;
 use config::Config;
 use counter::state::Timer;
 use oscillator::state::Watchdog;
@@ -8,14 +9,17 @@ use page::byte;
 use page::text;
 use page::unreadable;
 use scheduler::Scheduler;
+use words::FINE;
 ghost use Rattle.bench.specs.Bench.{Sound};
 
-// The timer counts once a configuration was accepted, the watchdog once there is a new one. line is the line's number, held its bytes so far, at the page's.
+// The timer counts once a configuration was accepted, the watchdog and the board, which stands beside, once there is a new one. asked is what a line orders of the board, line is the line's number, held its bytes so far, at the page's.
 pub struct Bench {
     pub ready: bool,
     pub timer: Timer,
     pub watched: bool,
     pub watchdog: Watchdog,
+    pub boarded: bool,
+    pub asked: Asked,
     pub scheduler: Scheduler,
     pub line: u64,
     pub held: usize,
@@ -34,6 +38,8 @@ impl Bench {
             timer,
             watched: false,
             watchdog: Watchdog::new(),
+            boarded: false,
+            asked: Asked::nothing(FINE),
             scheduler: Scheduler::new(),
             line: 0,
             held: 0,

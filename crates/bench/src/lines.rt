@@ -1,6 +1,7 @@
 // A line of the script, handed to what its first word names.
 
 use crate::bench::Bench;
+use crate::board_lines::board_line;
 use crate::call_lines::call_line;
 use crate::config_lines::config_line;
 use crate::config_lines::preset_line;
@@ -47,7 +48,7 @@ fn command(b: Bench, line: &[u8], page: &mut Page) -> Bench
     let end = find(line, start, b' ');
     // The calls come first, by their words: call_lines goes by these places.
     let name = place(
-        b"advance next reset wake tifr timsk read peek prr wtifr wtimsk presc route acout sleep tsm write edge config preset state pin sched distance wdt shift",
+        b"advance next reset wake tifr timsk read peek prr wtifr wtimsk presc route acout sleep tsm write edge config preset state pin sched distance wdt shift board",
         &line[start..end],
     );
     match name {
@@ -63,6 +64,7 @@ fn command(b: Bench, line: &[u8], page: &mut Page) -> Bench
         23 => state_line(b, line, end, true, page),
         24 => wdt_line(b, line, end, page),
         25 => shift_line(b, line, end, page),
+        26 => board_line(b, line, end, page),
         _ => b.unreadable(page, UNKNOWN_COMMAND),
     }
 }

@@ -1,6 +1,9 @@
 // Reads a script from standard input in pieces, and answers it on standard output.
 
 mod bench;
+mod board_asked;
+mod board_lines;
+mod board_shown;
 mod call_lines;
 mod config_lines;
 mod lines;
@@ -10,14 +13,17 @@ mod wdt_lines;
 mod wdt_shown;
 
 use crate::bench::Bench;
+use crate::board_lines::Desk;
+use crate::board_lines::ordered;
 use crate::lines::LONGEST;
 use crate::lines::Line;
 use crate::lines::answer;
+use board::state::Board;
 use libc::STDIN_FILENO;
 use page::Page;
 use page::SIZE;
 use page::flush;
-ghost use Rattle.bench.specs.Bench.{Sound};
+ghost use Rattle.bench.specs.Bench.{Whole};
 
 // Holds a byte of a line that is not too long yet; yields how many are held.
 fn hold(line: &mut Line, held: usize, byte: u8) -> usize {
@@ -30,17 +36,23 @@ fn hold(line: &mut Line, held: usize, byte: u8) -> usize {
 }
 
 // Answers the lines that end in a piece, and holds what is left.
-fn piece(b: Bench, input: &[u8], line: &mut Line, page: &mut Page) -> Bench
-    requires { ⌜ Sound b ⌝ }
-    ensures { λ r. ⌜ Sound r ⌝ }
+fn piece(d: Desk, input: &[u8], line: &mut Line, page: &mut Page) -> Desk
+    requires { ⌜ Whole d ⌝ }
+    ensures { λ r. ⌜ Whole r ⌝ }
 {
-    let mut b = b;
+    let mut b = d.bench;
+    let mut board = d.board;
     let mut held = b.held;
     let mut i = 0;
     while i < input.len() {
         let byte = input[i];
         if byte == b'\n' {
             b = answer(b, line, held, page);
+            if b.asked.is_some() {
+                let d = ordered(Desk { bench: b, board }, page);
+                b = d.bench;
+                board = d.board;
+            }
             held = 0;
         } else {
             held = hold(line, held, byte);
@@ -48,14 +60,21 @@ fn piece(b: Bench, input: &[u8], line: &mut Line, page: &mut Page) -> Bench
         i += 1;
     }
     b.held = held;
-    b
+    Desk { bench: b, board }
 }
 
 // Answers the last line, which no line feed ends, and writes out what is left.
-fn finish(b: Bench, line: &Line, page: &mut Page)
-    requires { ⌜ Sound b ⌝ }
+fn finish(d: Desk, line: &Line, page: &mut Page)
+    requires { ⌜ Whole d ⌝ }
 {
+    let b = d.bench;
     let last = answer(b, line, b.held, page);
+    if last.asked.is_some() {
+        let board = d.board;
+        let d = ordered(Desk { bench: last, board }, page);
+        let b = d.bench;
+        return flush(page, b.at);
+    }
     flush(page, last.at);
 }
 
@@ -65,7 +84,10 @@ fn main() {
     let mut input = [0u8; 65536];
     let mut line = [0u8; LONGEST];
     let mut page = [0u8; SIZE];
-    let mut b = Bench::new();
+    let mut d = Desk {
+        bench: Bench::new(),
+        board: Board::new(),
+    };
     let mut turns = u64::MAX;
     while turns > 0 {
         let got = libc::read(STDIN_FILENO, &mut input);
@@ -73,8 +95,8 @@ fn main() {
         if n == 0 {
             break;
         }
-        b = piece(b, &input[..n], &mut line, &mut page);
+        d = piece(d, &input[..n], &mut line, &mut page);
         turns -= 1;
     }
-    finish(b, &line, &mut page);
+    finish(d, &line, &mut page);
 }

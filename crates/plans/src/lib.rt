@@ -9,7 +9,7 @@ ghost use Rattle.scheduler.specs.Scheduler.{Valid};
 ghost use Rattle.plans.specs.Plans.{keyOf, plannedOf};
 
 // A timer's key: its id owns the event.
-fn key(id: Id) -> EventKey
+pub fn key(id: Id) -> EventKey
     ensures { λ r. ⌜ r ≡ keyOf id ⌝ }
 {
     match id {

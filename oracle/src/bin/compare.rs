@@ -1,13 +1,13 @@
 //! `compare CALLS SEED [BEND]`: judge against plain counter, or against one bent, to see a disagreement.
 //! `compare --program PATH CALLS SEED`: judge against a bench program. `compare --watchdog PATH CALLS SEED`: the plain
-//! watchdog against one. `compare --cover SCRIPT`: what does it reach?
+//! watchdog against one. `compare --board PATH CALLS SEED`: the board of the Rust, and the plain board, against one. `compare --cover SCRIPT`: what does it reach?
 //! `compare --bends SEED`: is it sharp? `compare --sources MCS`: was the Rust compiled that lies there?
 
 use std::path::Path;
 use std::{env, fs, process};
 
 use oracle::compare::program::{self, Program};
-use oracle::compare::{self, bends, cover, watchdog};
+use oracle::compare::{self, bends, board, cover, watchdog};
 use oracle::plain::bends::Bend;
 
 fn main() {
@@ -17,6 +17,7 @@ fn main() {
         ["--cover", script] => cover::run(Path::new(script)),
         ["--program", path, calls, seed, ref words @ ..] => against_program(path, words, calls, seed),
         ["--watchdog", path, calls, seed] => against_watchdog(path, calls, seed),
+        ["--board", path, calls, seed] => against_board(path, calls, seed),
         ["--sources", checkout] => sources(Path::new(checkout)),
         [calls, seed] => against(calls, seed, None),
         [calls, seed, name] => against(calls, seed, Some(Bend::named(name).unwrap_or_else(|| usage()))),
@@ -40,13 +41,17 @@ fn against_watchdog(path: &str, calls: &str, seed: &str) -> Result<(), String> {
     watchdog::run(&Program::new(path, &[])?, number(calls) as usize, number(seed))
 }
 
+fn against_board(path: &str, calls: &str, seed: &str) -> Result<(), String> {
+    board::run(&Program::new(path, &[])?, number(calls) as usize, number(seed))
+}
+
 fn number(word: &str) -> u64 {
     word.parse().unwrap_or_else(|_| usage())
 }
 
 fn usage() -> ! {
     eprintln!("usage: compare CALLS SEED [BEND] | compare --program PATH CALLS SEED [ARGUMENT...]");
-    eprintln!("       compare --watchdog PATH CALLS SEED | compare --cover SCRIPT | compare --bends SEED | compare --sources MCS");
+    eprintln!("       compare --watchdog PATH CALLS SEED | compare --board PATH CALLS SEED | compare --cover SCRIPT | compare --bends SEED | compare --sources MCS");
     process::exit(2)
 }
 

@@ -13,7 +13,7 @@ fn main() -> io::Result<()> {
         [] => None,
         ["--bend", name] => Some(Bend::named(name).unwrap_or_else(|| usage())),
         ["--bends"] => {
-            Bend::ALL.iter().for_each(|b| println!("{}: {}", b.name(), b.what()));
+            Bend::all().for_each(|b| println!("{}: {}", b.name(), b.what()));
             return Ok(());
         }
         _ => usage(),

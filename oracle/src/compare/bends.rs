@@ -1,5 +1,6 @@
 //! Whether the comparison is sharp: each bent plain counter must be noticed.
 
+use super::board;
 use super::figures::Figures;
 use super::{calls, clash, judged, script, Answers};
 use crate::plain::bends::Bend;
@@ -44,14 +45,18 @@ impl Sample {
 pub fn run(first: u64) -> Result<(), String> {
     let mut sample = Sample { next: first, scripts: Vec::new() };
     let mut missed = Vec::new();
-    for &bend in Bend::ALL {
-        match sample.noticed(bend) {
+    for bend in Bend::all() {
+        let noticed = match Bend::BOARDS.contains(&bend) {
+            true => board::noticed(bend, first, MOST_CALLS),
+            false => sample.noticed(bend),
+        };
+        match noticed {
             Some(calls) => println!("{}: noticed after {calls} calls ({})", bend.name(), bend.what()),
             None => missed.push(bend.name()),
         }
     }
     if missed.is_empty() {
-        println!("{} bends, each noticed; seeds from {first}", Bend::ALL.len());
+        println!("{} bends, each noticed; seeds from {first}", Bend::all().count());
         return Ok(());
     }
     Err(format!("not noticed in {MOST_CALLS} calls: {}", missed.join(", ")))

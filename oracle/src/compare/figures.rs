@@ -5,6 +5,7 @@ use std::fmt;
 
 use super::account::Account;
 use crate::judge::{Judge, View};
+use crate::script::board::ORDERS;
 use crate::script::command::CALLS;
 use crate::script::play::read_line;
 use crate::script::words::Why;
@@ -32,7 +33,7 @@ pub struct Figures {
     records: usize,
     /// The most records that one tick wrote.
     most: usize,
-    /// Commands that were accepted, those on the scheduler by both words; presets; why lines could not be read.
+    /// Commands that were accepted, those on the scheduler and the board by both words; presets; why lines could not be read.
     accepted: BTreeSet<String>,
     presets: BTreeSet<String>,
     reasons: BTreeSet<String>,
@@ -53,12 +54,16 @@ impl Figures {
         let mut words = line.split(' ').filter(|w| !w.is_empty());
         let (name, second) = (words.next().unwrap_or_default(), words.next().unwrap_or_default());
         self.count_said(name, second, answer);
-        let name = if answer.starts_with("error") { "unreadable" } else { name };
+        let name = match (name, second) {
+            _ if answer.starts_with("error") => "unreadable",
+            ("board", "new" | "state") => "board state",
+            _ => name,
+        };
         *self.lines.entry(name.into()).or_default() += 1;
         if let Some(number) = answer.strip_prefix("refused ") {
             *self.refused.entry(number.parse().unwrap_or_default()).or_default() += 1;
         }
-        let Some(view) = judge.view().filter(|_| name != "wdt") else { return };
+        let Some(view) = judge.view().filter(|_| name != "wdt" && name != "board") else { return };
         if answer == "ok config" {
             *self.timers.entry(kind(&view)).or_default() += 1;
             self.mode = None;
@@ -91,8 +96,8 @@ impl Figures {
         } else if name == "preset" {
             self.presets.insert(second.into());
         }
-        if ["ok", "paused", "state ", "distance "].iter().any(|start| answer.starts_with(start)) {
-            let command = if name == "sched" { format!("sched {second}") } else { name.into() };
+        if ["ok", "paused", "state ", "distance ", "board "].iter().any(|start| answer.starts_with(start)) {
+            let command = if ["sched", "board"].contains(&name) { format!("{name} {second}") } else { name.into() };
             self.accepted.insert(command);
         }
     }
@@ -117,12 +122,12 @@ impl Figures {
     fn aims(&self) -> Vec<(&'static str, String, bool)> {
         let mut aims = Vec::new();
         let mut aim = |what, which: String, reached| aims.push((what, which, reached));
-        (1..=11).chain([18]).for_each(|n| aim("refusals", n.to_string(), self.refused.contains_key(&n)));
+        (1..=11).chain([16, 18]).for_each(|n| aim("refusals", n.to_string(), self.refused.contains_key(&n)));
         (0..8).for_each(|m| aim("narrow modes", m.to_string(), self.modes.contains_key(&(false, m))));
         (0..16).for_each(|m| aim("wide modes", m.to_string(), self.modes.contains_key(&(true, m))));
         KINDS.iter().for_each(|&kind| aim("layouts", kind.into(), self.timers.contains_key(kind)));
         presets::names().for_each(|name| aim("presets", name.into(), self.presets.contains(name)));
-        commands().for_each(|name| aim("commands", name.into(), self.accepted.contains(name)));
+        commands().for_each(|name| aim("commands", name.clone(), self.accepted.contains(&name)));
         Why::ALL.iter().for_each(|why| aim("reasons", why.to_string(), self.reasons.contains(&why.to_string())));
         aim("paused advances", "any".into(), self.paused > 0);
         aim("ticks of eleven records", "any".into(), self.most == 11);
@@ -144,7 +149,7 @@ impl Figures {
     }
 
     pub fn calls(&self) -> usize {
-        let other = |name: &str| ["state", "distance", "shift", "config", "preset"].contains(&name);
+        let other = |name: &str| ["state", "distance", "shift", "config", "preset", "board state"].contains(&name);
         self.lines.iter().filter(|(name, _)| !other(name)).map(|(_, n)| n).sum()
     }
 }
@@ -158,10 +163,11 @@ fn most_in_a_tick(answer: &str) -> usize {
 }
 
 /// Every command of a script that can be accepted.
-fn commands() -> impl Iterator<Item = &'static str> {
+fn commands() -> impl Iterator<Item = String> {
     let others = ["config", "preset", "state", "distance", "shift", "pin"];
     let scheduler = ["sched at", "sched cancel", "sched is", "sched pop", "sched clear"];
-    CALLS.iter().map(|call| call.0).chain(others).chain(scheduler)
+    let board = ORDERS.iter().map(|order| order.0).chain(["new", "state"]).map(|name| format!("board {name}"));
+    CALLS.iter().map(|call| call.0).chain(others).chain(scheduler).map(String::from).chain(board)
 }
 
 fn kind(view: &View) -> &'static str {
@@ -173,7 +179,7 @@ fn kind(view: &View) -> &'static str {
     }
 }
 
-fn listed<K: fmt::Display>(entries: impl Iterator<Item = (K, usize)>) -> String {
+pub fn listed<K: fmt::Display>(entries: impl Iterator<Item = (K, usize)>) -> String {
     entries.map(|(key, count)| format!("{key}: {count}")).collect::<Vec<_>>().join(", ")
 }
 

@@ -4,6 +4,7 @@
 mod account;
 mod batch;
 pub mod bends;
+pub mod board;
 pub mod cover;
 pub mod figures;
 pub mod program;

@@ -104,7 +104,7 @@ impl Program {
 
     /// The first line of a script that the program does not answer as the judge; the last where it ends in failure,
     /// since what it wrote then need not reach as far as it came.
-    fn clash(&self, lines: &[String], judged: &[Option<String>]) -> Option<Clash> {
+    pub fn clash(&self, lines: &[String], judged: &[Option<String>]) -> Option<Clash> {
         let script: String = lines.iter().map(|line| format!("{line}\n")).collect();
         let ran = self.run(script.as_bytes()).expect("a program that has run before");
         let last = lines.len().checked_sub(1)?;
@@ -114,9 +114,9 @@ impl Program {
         let mut wrote = ran.wrote.split_inclusive(|&b| b == b'\n');
         for (line, judge) in judged.iter().enumerate() {
             let Some(answer) = judge else { continue };
-            let other = wrote.next().unwrap_or_default();
+            let other = wrote.by_ref().take(answer.lines().count()).collect::<Vec<_>>().concat();
             if other != format!("{answer}\n").as_bytes() {
-                return Some(Clash::new(line, judge, &Some(shown(other))));
+                return Some(Clash::new(line, judge, &Some(shown(&other))));
             }
         }
         wrote.next().map(|more| Clash::new(last, &judged[last], &Some(format!("and then {}", shown(more)))))

@@ -3,7 +3,7 @@
 use super::{Answers, Clash};
 use crate::judge::{Follow, Judge};
 use crate::script::play::read_line;
-use crate::script::{Call, Command, Play};
+use crate::script::{BoardLine, Call, Command, Order, Play};
 
 /// Without a stop that was dropped, an advance may ask for more ticks than can be worked. No other call
 /// passes the next event.
@@ -41,12 +41,21 @@ fn judged(lines: &[String]) -> Option<Answers> {
     let mut play = Play::new(Judge::new(Follow::Sheet).counting());
     let mut answers = Vec::new();
     for line in lines {
-        if let Ok(Some(Command::Call { call: Call::Advance, cycle, .. })) = read_line(line.as_bytes()) {
-            if cycle < 1 << 62 && play.side.ticks_to(cycle) > MOST_TICKS {
-                return None;
-            }
+        if ticks(&play.side, line) > MOST_TICKS {
+            return None;
         }
         answers.push(play.answer(line.as_bytes()));
     }
     Some(answers)
+}
+
+/// How many ticks the advance of a line asks for.
+fn ticks(judge: &Judge, line: &str) -> u64 {
+    match read_line(line.as_bytes()) {
+        Ok(Some(Command::Call { call: Call::Advance, cycle, .. })) if cycle < 1 << 62 => judge.ticks_to(cycle),
+        Ok(Some(Command::Board(BoardLine::Call { order: Order::Advance(timer), cycle, .. }))) if cycle < 1 << 62 => {
+            judge.board().map_or(0, |board| board.ticks_to(timer, cycle))
+        }
+        _ => 0,
+    }
 }

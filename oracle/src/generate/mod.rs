@@ -1,6 +1,7 @@
 //! Random scripts by seed. The generator runs the judge on its own lines, so that it can aim at the next
 //! event, at TOP and at the compares.
 
+pub mod board;
 mod calls;
 mod configs;
 mod cycles;

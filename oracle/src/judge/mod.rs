@@ -3,6 +3,7 @@
 
 mod advance;
 mod bench;
+mod board;
 mod calls;
 mod pins;
 mod records;
@@ -17,8 +18,11 @@ use mcs::scheduler::Scheduler;
 use mcs::timer::Inside;
 
 use crate::plain::Plain;
-use crate::script::{Answer, Call, Config, Distance, PinLine, Sched, Side, State};
+use crate::script::{
+    Answer, Areas, BoardState, Call, Config, Distance, Event, Order, PinLine, Sched, Side, State, Told,
+};
 use bench::Bench;
+use board::Board;
 
 /// Whose word counts where 01 lets the sheet decide against the Rust.
 #[derive(Clone, Copy, Debug, PartialEq, Eq)]
@@ -44,6 +48,7 @@ struct Outcome {
     records: Vec<u8>,
 }
 
+#[derive(Clone)]
 pub struct Judge {
     follow: Follow,
     /// Refusal 7 is left out, to see what the Rust does there.
@@ -52,6 +57,7 @@ pub struct Judge {
     scheduler: Scheduler,
     /// For the odometer, which the Rust has not.
     plain: Option<Plain>,
+    board: Option<Box<Board>>,
 }
 
 /// What the generator aims by.
@@ -64,7 +70,7 @@ pub struct View<'a> {
 
 impl Judge {
     pub fn new(follow: Follow) -> Self {
-        Self { follow, past_seven: false, held: None, scheduler: Scheduler::new(), plain: None }
+        Self { follow, past_seven: false, held: None, scheduler: Scheduler::new(), plain: None, board: None }
     }
 
     /// With the odometer of a plain counter that is fed the same calls.
@@ -84,6 +90,21 @@ impl Judge {
             next: h.bench.next_event(),
             latest: h.latest,
         })
+    }
+
+    /// The board, where the script has one.
+    pub fn board(&self) -> Option<&Board> {
+        self.board.as_deref()
+    }
+
+    /// Whether the timer has a register at an address.
+    fn owns(&self, address: u16) -> bool {
+        self.held.as_ref().is_some_and(|held| held.bench.timer.registers().contains(&(address, 0)))
+    }
+
+    /// The timer's next event.
+    fn announced(&self) -> Option<Event> {
+        self.held.as_ref().and_then(|held| held.bench.announced())
     }
 
     /// How many ticks lie between the sync cycle and `cycle`, as the timer stands.
@@ -194,5 +215,17 @@ impl Side for Judge {
 
     fn sched(&mut self, sched: Sched) -> Answer {
         scheduler::answer(&mut self.scheduler, sched)
+    }
+
+    fn new_board(&mut self) {
+        self.board = Some(Box::new(Board::new(self.follow)));
+    }
+
+    fn order(&mut self, order: Order, cycle: u64, areas: &mut Areas) -> Option<Told> {
+        self.board.as_mut().map(|board| board.order(order, cycle, areas))
+    }
+
+    fn board_state(&self) -> Option<BoardState> {
+        self.board.as_ref().map(|board| board.state())
     }
 }

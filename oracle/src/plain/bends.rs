@@ -3,25 +3,30 @@
 //! what that side does and the port does not.
 
 macro_rules! bends {
-    ($($bend:ident $name:literal $what:literal,)*) => {
+    ($timers:ident { $($bend:ident $name:literal $what:literal,)* } $boards:ident { $($of:ident $called:literal $does:literal,)* }) => {
         #[derive(Clone, Copy, Debug, PartialEq, Eq)]
         pub enum Bend {
             $($bend,)*
+            $($of,)*
         }
 
         impl Bend {
-            pub const ALL: &'static [Bend] = &[$(Bend::$bend,)*];
+            /// Of the counter, the pins and the scheduler; and of the board.
+            pub const $timers: &'static [Bend] = &[$(Bend::$bend,)*];
+            pub const $boards: &'static [Bend] = &[$(Bend::$of,)*];
 
             pub fn name(self) -> &'static str {
                 match self {
                     $(Bend::$bend => $name,)*
+                    $(Bend::$of => $called,)*
                 }
             }
 
-            /// What the bent counter does.
+            /// What the bent counter, or the bent board, does.
             pub fn what(self) -> &'static str {
                 match self {
                     $(Bend::$bend => $what,)*
+                    $(Bend::$of => $does,)*
                 }
             }
         }
@@ -29,6 +34,7 @@ macro_rules! bends {
 }
 
 bends! {
+TIMERS {
     NoTickUnblocks "no-tick-unblocks" "trap: a sync over no tick ends the block",
     TopAfterLoad "top-after-load" "trap: TOP is taken after the compare load",
     AboveTopIsTop "above-top-is-top" "trap: a count above TOP is treated as at TOP",
@@ -141,9 +147,33 @@ bends! {
     RemoveKeepsOrder "remove-keeps-order" "a removed event's place closes up",
     KnownKeyRefused "known-key-refused" "number 11 for a key that is held",
 }
+BOARDS {
+    TsmToldAgain "tsm-told-again" "a GTCCR write tells TSM where bit 7 stays too",
+    PrescalersSwapped "prescalers-swapped" "GTCCR's bit 0 resets Timer2's prescaler, bit 1 that of the others",
+    ResetBitsStay "reset-bits-stay" "GTCCR reads its reset bits back without TSM",
+    GtccrWhole "gtccr-whole" "GTCCR keeps all bits",
+    GtccrReadHasCycle "gtccr-read-has-cycle" "number 2 for a GTCCR read",
+    IdleWritePasses "idle-write-passes" "a GTCCR write that changes nothing reaches no timer",
+    ResetClearsTsm "reset-clears-tsm" "a reset of one timer clears GTCCR",
+    SixteenIsFour "sixteen-is-four" "number 4 for an address that is nobody's",
+    SixteenComesLast "sixteen-comes-last" "number 16 is tested after 2",
+    FirstNumber "first-number" "the first timer that refuses tells the number",
+    HighestNumber "highest-number" "the highest number is told",
+    RefusedReachesOthers "refused-reaches-others" "a refusal changes the timers that accept",
+    Timer2Unreached "timer2-unreached" "sleep, wake, power reduction and GTCCR writes pass Timer2 by",
+    Timer2RunsAsleep "timer2-runs-asleep" "Timer2 counts in power-save and extended standby",
+    PrrIsOneBit "prr-is-one-bit" "a PRR write holds all three",
+    EventOutlivesStop "event-outlives-stop" "the scheduler keeps the event of a timer that stops",
+}
+}
 
 impl Bend {
+    /// Every bend.
+    pub fn all() -> impl Iterator<Item = Bend> {
+        Self::TIMERS.iter().chain(Self::BOARDS).copied()
+    }
+
     pub fn named(name: &str) -> Option<Bend> {
-        Self::ALL.iter().copied().find(|b| b.name() == name)
+        Self::all().find(|b| b.name() == name)
     }
 }

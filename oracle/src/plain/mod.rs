@@ -1,6 +1,7 @@
 //! The plain counter: written from 01's words alone, it works every tick singly and knows no shortcut.
 
 pub mod bends;
+mod board;
 mod calls;
 mod edges;
 mod flags;
@@ -20,22 +21,37 @@ mod timer;
 
 use std::rc::Rc;
 
-use crate::script::{Answer, Call, Config, Distance, PinLine, Sched, Side, State};
+use crate::script::{
+    Answer, Areas, BoardState, Call, Config, Distance, Event, Order, PinLine, Sched, Side, State, Told,
+};
 use bends::Bend;
+use board::Board;
 use log::Log;
 use scheduler::Scheduler;
 use setup::Setup;
 use timer::Timer;
 
+#[derive(Clone)]
 pub struct Plain {
     bend: Option<Bend>,
     timer: Option<Timer>,
     scheduler: Scheduler,
+    board: Option<Box<Board>>,
 }
 
 impl Plain {
     pub fn new(bend: Option<Bend>) -> Self {
-        Self { bend, timer: None, scheduler: Scheduler::default() }
+        Self { bend, timer: None, scheduler: Scheduler::default(), board: None }
+    }
+
+    /// Whether the timer has a register at an address.
+    fn owns(&self, address: u16) -> bool {
+        self.timer.as_ref().is_some_and(|timer| timer.setup.register(address).is_some())
+    }
+
+    /// The timer's next event.
+    fn announced(&self) -> Option<Event> {
+        self.timer.as_ref().and_then(Timer::announced)
     }
 
     /// The records into the area, from its start.
@@ -124,5 +140,17 @@ impl Side for Plain {
 
     fn sched(&mut self, sched: Sched) -> Answer {
         self.scheduler.answer(sched, self.bend)
+    }
+
+    fn new_board(&mut self) {
+        self.board = Some(Box::new(Board::new(self.bend)));
+    }
+
+    fn order(&mut self, order: Order, cycle: u64, areas: &mut Areas) -> Option<Told> {
+        self.board.as_mut().map(|board| board.order(order, cycle, areas))
+    }
+
+    fn board_state(&self) -> Option<BoardState> {
+        self.board.as_ref().map(|board| board.state())
     }
 }

@@ -3,7 +3,7 @@
 use super::bends::Bend;
 use crate::script::{Answer, Sched};
 
-#[derive(Default)]
+#[derive(Clone, Default)]
 pub struct Scheduler {
     /// Owner, tag and cycle.
     places: Vec<(u8, u8, u64)>,

@@ -57,17 +57,26 @@ impl Answer {
         }
     }
 
+    /// A call's answer without what follows it of the timer: its refusal, the cycle where it paused, or its value.
+    pub fn head(&self) -> String {
+        match self {
+            Self::Refused(number) => format!("refused {number}"),
+            Self::Done { value, .. } => format!("ok value={}", value.map_or("-".into(), |v| format!("{v:02x}"))),
+            Self::Paused { cycle, .. } => format!("paused cycle={cycle}"),
+            Self::Differs(answer) => format!("differs {}", answer.head()),
+            _ => panic!("{self:?} is no call's answer"),
+        }
+    }
+
     /// The answer as a line; `area` is the area after the call.
     pub fn line(&self, area: &[u8]) -> String {
         let records = || format!("bytes={} records={}", self.bytes(), hex(&area[..self.bytes()]));
         match self {
             Self::Config => "ok config".into(),
-            Self::Refused(number) => format!("refused {number}"),
-            Self::Done { value, next, .. } => {
-                let value = value.map_or("-".into(), |v| format!("{v:02x}"));
-                format!("ok value={value} {} {}", event(*next), records())
+            Self::Refused(_) => self.head(),
+            Self::Done { next, .. } | Self::Paused { next, .. } => {
+                format!("{} {} {}", self.head(), event(*next), records())
             }
-            Self::Paused { cycle, next, .. } => format!("paused cycle={cycle} {} {}", event(*next), records()),
             Self::NoTimer => "no timer".into(),
             Self::Shift(ticks) => format!("ok shift={ticks}"),
             Self::Pin { level, volts, changed, contention } => {
@@ -94,11 +103,11 @@ fn event(next: Option<Event>) -> String {
     next.map_or("next=none flags=-".into(), |Event { cycle, flags }| format!("next={cycle} flags={flags:02x}"))
 }
 
-fn or_none(cycle: Option<u64>) -> String {
+pub fn or_none(cycle: Option<u64>) -> String {
     cycle.map_or("none".into(), |c| c.to_string())
 }
 
-fn hex(bytes: &[u8]) -> String {
+pub fn hex(bytes: &[u8]) -> String {
     if bytes.is_empty() {
         return "-".into();
     }

@@ -1,5 +1,6 @@
 //! One line of a script as a command.
 
+use super::board::BoardLine;
 use super::config::Config;
 use super::pin::PinLine;
 use super::words::{self, Read, Why};
@@ -47,6 +48,7 @@ pub enum Command {
     Pin(PinLine),
     Sched(Sched),
     Wdt(Wdt),
+    Board(BoardLine),
 }
 
 /// The names of the calls, with how many words each has between its name and its cycle.
@@ -87,6 +89,7 @@ impl Command {
             "pin" => PinLine::read(rest).map(Self::Pin),
             "sched" => read_sched(rest).map(Self::Sched),
             "wdt" => Wdt::read(rest).map(Self::Wdt),
+            "board" => BoardLine::read(rest).map(Self::Board),
             name => {
                 let (_, arguments) = CALLS.iter().find(|c| c.0 == name).ok_or(Why::UnknownCommand)?;
                 exactly(rest, arguments + 2)?;
@@ -98,7 +101,7 @@ impl Command {
     }
 }
 
-fn exactly(words: &[&str], wanted: usize) -> Read<()> {
+pub fn exactly(words: &[&str], wanted: usize) -> Read<()> {
     match words.len() {
         n if n < wanted => Err(Why::MissingWord),
         n if n > wanted => Err(Why::ExtraWord),

@@ -2,6 +2,7 @@
 //! the only part that the judge and the plain counter share, and it knows nothing of how a timer works.
 
 pub mod answer;
+pub mod board;
 pub mod command;
 pub mod config;
 pub mod pin;
@@ -10,6 +11,7 @@ pub mod presets;
 pub mod words;
 
 pub use answer::{Answer, Distance, Event, State};
+pub use board::{Areas, BoardLine, BoardState, Order, Told};
 pub use command::{Call, Command, Sched};
 pub use config::{ClockTable, CompareC, Config, Layout};
 pub use pin::{Ext, PinLine};

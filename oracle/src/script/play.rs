@@ -3,6 +3,7 @@
 use std::io::{self, BufRead, Write};
 
 use super::answer::{Answer, Distance, State};
+use super::board::{Areas, BoardLine, BoardState, Order, Told};
 use super::command::{Call, Command, Sched};
 use super::config::Config;
 use super::pin::PinLine;
@@ -24,6 +25,10 @@ pub trait Side {
     fn shift(&self, first: u64, second: u64) -> Answer;
     fn pin(&self, pin: &PinLine) -> Answer;
     fn sched(&mut self, sched: Sched) -> Answer;
+    /// A fresh board.
+    fn new_board(&mut self);
+    fn order(&mut self, order: Order, cycle: u64, areas: &mut Areas) -> Option<Told>;
+    fn board_state(&self) -> Option<BoardState>;
 }
 
 pub struct Play<S> {
@@ -58,6 +63,7 @@ impl<S: Side> Play<S> {
             Command::Pin(pin) => self.side.pin(pin).line(&[]),
             Command::Sched(sched) => self.side.sched(*sched).line(&[]),
             Command::Wdt(wdt) => self.wdt(*wdt),
+            Command::Board(line) => self.board(*line),
         }
     }
 
@@ -68,6 +74,25 @@ impl<S: Side> Play<S> {
             Some(i) => format!("area changed at {}", answer.bytes() + i),
             None => answer.line(&area),
         }
+    }
+
+    fn board(&mut self, line: BoardLine) -> String {
+        let answer = match line {
+            BoardLine::New => {
+                self.side.new_board();
+                Some(Answer::Config.line(&[]))
+            }
+            BoardLine::State => self.side.board_state().map(|board| board.to_string()),
+            BoardLine::Call { order, cycle, area } => self.order(order, cycle, area),
+        };
+        answer.unwrap_or(Answer::NoTimer.line(&[]))
+    }
+
+    fn order(&mut self, order: Order, cycle: u64, size: usize) -> Option<String> {
+        let mut areas = [(); 3].map(|()| vec![FILL; size]);
+        let told = self.side.order(order, cycle, &mut areas)?;
+        let changed = |i: usize| areas[i].iter().skip(told.bytes[i]).any(|&b| b != FILL);
+        Some(if (0..3).any(changed) { "area changed".into() } else { told.line(&areas) })
     }
 
     fn wdt(&mut self, wdt: Wdt) -> String {

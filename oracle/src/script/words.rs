@@ -62,6 +62,11 @@ pub fn decimal8(word: &str) -> Read<u8> {
     number(word, 10, 0xff).map(|v| v as u8)
 }
 
+/// A timer of the board.
+pub fn timer(word: &str) -> Read<usize> {
+    number(word, 10, 2).map(|v| v as usize)
+}
+
 pub fn bit(word: &str) -> Read<bool> {
     number(word, 10, 1).map(|v| v == 1)
 }
