@@ -61,6 +61,7 @@ against-bench: $(BENCH)
 	$(ORACLE)/compare --program $(BENCH) $(CALLS) $(SEED)
 	$(ORACLE)/compare --watchdog $(BENCH) $(CALLS) $(SEED)
 	$(ORACLE)/compare --board $(BENCH) $(CALLS) $(SEED)
+	oracle/files.sh $(BENCH)
 
 library:
 	rt staticlib shell

@@ -6,7 +6,9 @@
 # that the fixed list in crates/bench is the one that fixed.sh writes.
 set -u
 cd "$(dirname "$0")" || exit 1
-bin=target/release
+bin=$PWD/target/release
+room=$(mktemp -d) || exit 1
+trap 'rm -rf "$room"' EXIT
 failed=0
 scripts=0
 
@@ -15,7 +17,7 @@ expect() {
     script=$1
     answers=$2
     shift 2
-    if [ "$("$@" < "$script")" != "$(cat "$answers")" ]; then
+    if [ "$( (cd "$room" && "$@") < "$script")" != "$(cat "$answers")" ]; then
         echo "oracle: on $script, $* does not answer $answers" >&2
         failed=1
     fi
@@ -38,8 +40,6 @@ expect $story.script $story.answers $bin/judge --sheet
 expect $story.script $story.answers $bin/plain
 [ $failed -eq 0 ] && echo "$((scripts + 1)) scripts answered as they must be"
 
-room=$(mktemp -d) || exit 1
-trap 'rm -rf "$room"' EXIT
 ./fixed.sh "$room" || failed=1
 for file in stdin stdout; do
     if ! cmp -s "$room/$file" "../crates/bench/$file"; then

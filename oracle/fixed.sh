@@ -5,6 +5,7 @@ set -eu
 LC_ALL=C
 export LC_ALL
 cd "$(dirname "$0")"
+here=$PWD
 bin=target/release
 folder=${1:-../crates/bench}
 room=$(mktemp -d)
@@ -12,7 +13,7 @@ trap 'rm -rf "$room"' EXIT
 
 # The random scripts: `generate SEED CALLS` for each seed.
 calls=100
-seeds="4 30 31 94 103 121 157 179 360 544 555 571 599 641 697 825 912 1151 1429"
+seeds="47 114 127 151 167 179 183 244 256 278 285 388 412 444 468 586 597 852 4226"
 
 # Those of the board: `generate --board SEED CALLS`.
 boards="149 255 298"
@@ -40,7 +41,7 @@ no_timer() {
 }
 
 readings() {
-    for name in T1 T2 T3 T4 T5 T6 T7 T8 T9 T10 bench refusals unreadable board; do
+    for name in T1 T2 T3 T4 T5 T6 T7 T8 T9 T10 bench refusals lists doors log unreadable board; do
         files "readings/$name.script"
     done
 }
@@ -86,7 +87,7 @@ sample > "$room/sample"
     cat "$room/sample"
     hostile
 } > "$room/stdin"
-$bin/judge --sheet < "$room/stdin" > "$room/stdout"
+(cd "$room" && "$here/$bin/judge" --sheet) < "$room/stdin" > "$room/stdout"
 
 # Lines that cannot be read are in the sample too, but not every kind.
 cat readings/unreadable.script "$room/sample" > "$room/reaches"

@@ -1,18 +1,29 @@
-// What a script works on: one timer, one watchdog, one scheduler, and where reading and writing stand.
+// What a script works on: one timer, one watchdog, one scheduler, one door, one log, and where reading and writing stand.
 
 use crate::board_asked::Asked;
+use crate::record_lines::NO_FILE;
 use config::Config;
 use counter::state::Timer;
+use door::Set;
+use log::Ring;
 use oscillator::state::Watchdog;
 use page::Page;
 use page::byte;
+use page::number;
 use page::text;
 use page::unreadable;
 use scheduler::Scheduler;
 use words::FINE;
 ghost use Rattle.bench.specs.Bench.{Sound};
 
-// The timer counts once a configuration was accepted, the watchdog and the board, which stands beside, once there is a new one. asked is what a line orders of the board, line is the line's number, held its bytes so far, at the page's.
+// The door of the last rule that was accepted; refused before there is one.
+pub struct Doors {
+    pub set: Set,
+}
+
+// The timer counts once a configuration was accepted, the watchdog and the board, which stands beside, once there is a new one.
+// asked is what a line orders of the board, items is how many the list holds, file the
+// descriptor that records go to. line is the line's number, held its bytes so far, at the page's.
 pub struct Bench {
     pub ready: bool,
     pub timer: Timer,
@@ -21,6 +32,10 @@ pub struct Bench {
     pub boarded: bool,
     pub asked: Asked,
     pub scheduler: Scheduler,
+    pub doors: Doors,
+    pub ring: Ring,
+    pub items: usize,
+    pub file: i32,
     pub line: u64,
     pub held: usize,
     pub at: usize,
@@ -33,6 +48,9 @@ impl Bench {
     {
         let started = Timer::new(Config::least());
         let timer = started.timer;
+        let doors = Doors {
+            set: Set::Refused(22),
+        };
         Bench {
             ready: false,
             timer,
@@ -41,6 +59,10 @@ impl Bench {
             boarded: false,
             asked: Asked::nothing(FINE),
             scheduler: Scheduler::new(),
+            doors,
+            ring: Ring::new(),
+            items: 0,
+            file: NO_FILE,
             line: 0,
             held: 0,
             at: 0,
@@ -62,6 +84,15 @@ impl Bench {
         ensures { λ r. ⌜ Sound r ⌝ }
     {
         let at = text(page, self.at, words);
+        self.answered(page, at)
+    }
+
+    // Answers with a refusal's number.
+    pub fn refused(self, page: &mut Page, n: u8) -> Bench
+        requires { ⌜ Sound self ⌝ }
+        ensures { λ r. ⌜ Sound r ⌝ }
+    {
+        let at = number(page, self.at, b"refused ", n as u64);
         self.answered(page, at)
     }
 

@@ -1,10 +1,12 @@
 // Lines that call the timer.
 
 use crate::bench::Bench;
+use crate::record_lines::kept;
 use answers::Outcome;
 use display::answer::answer;
 use page::Page;
 use page::number;
+use page::text;
 use time::units::Cycle;
 use timer::calls::Call;
 use words::Cursor;
@@ -116,7 +118,34 @@ pub fn changed(area: &[u8], from: usize) -> usize {
     area.len()
 }
 
-// Keeps the timer that a call leaves, and puts the answer, or where the area changed beyond what was written.
+// What was found after a call, and the place after what was put of it.
+pub struct Found {
+    pub fine: bool,
+    pub at: usize,
+}
+
+// Puts what is wrong after a call: its area changed beyond what was written, or the file did not take its records.
+pub fn checked(page: &mut Page, from: usize, file: i32, area: &[u8], written: usize) -> Found {
+    let end = changed(area, written);
+    if end < area.len() {
+        return Found {
+            fine: false,
+            at: number(page, from, b"area changed at ", end as u64),
+        };
+    }
+    if kept(file, area, written) {
+        return Found {
+            fine: true,
+            at: from,
+        };
+    }
+    Found {
+        fine: false,
+        at: text(page, from, b"door.log not written"),
+    }
+}
+
+// Keeps the timer that a call leaves, and puts the answer, or what is wrong with its area or records.
 fn told(bench: Bench, o: Outcome, area: &[u8], page: &mut Page) -> Bench
     requires { ⌜ (Sound bench) × Valid (o .timer) ⌝ }
     ensures { λ r. ⌜ Sound r ⌝ }
@@ -124,10 +153,9 @@ fn told(bench: Bench, o: Outcome, area: &[u8], page: &mut Page) -> Bench
     let t = o.timer;
     let mut b = bench;
     b.timer = t;
-    let end = changed(area, o.written);
-    if end < area.len() {
-        let at = number(page, b.at, b"area changed at ", end as u64);
-        return b.answered(page, at);
+    let c = checked(page, b.at, b.file, area, o.written);
+    if !c.fine {
+        return b.answered(page, c.at);
     }
     let at = answer(page, b.at, o, area);
     b.answered(page, at)

@@ -1,6 +1,7 @@
 // Lines that make a fresh timer.
 
 use crate::bench::Bench;
+use crate::record_lines::begun;
 use counter::state::Timer;
 use page::Page;
 use script::configs::Given;
@@ -21,7 +22,12 @@ fn configured(b: Bench, given: Given, page: &mut Page) -> Bench
     if started.number != 0 {
         return b.says(page, b"refused 1");
     }
+    let file = begun(b.file);
+    if file.why != FINE {
+        return b.unreadable(page, file.why);
+    }
     let mut fresh = b;
+    fresh.file = file.fd;
     fresh.ready = true;
     let t = started.timer;
     fresh.timer = t;

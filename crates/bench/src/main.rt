@@ -6,20 +6,30 @@ mod board_lines;
 mod board_shown;
 mod call_lines;
 mod config_lines;
+mod digits;
+mod door_lines;
 mod lines;
+mod log_lines;
+mod record_lines;
 mod shift_lines;
 mod state_lines;
 mod wdt_lines;
 mod wdt_shown;
+mod write_lines;
 
 use crate::bench::Bench;
 use crate::board_lines::Desk;
 use crate::board_lines::ordered;
+use crate::call_lines::FILL;
 use crate::lines::LONGEST;
 use crate::lines::Line;
 use crate::lines::answer;
+use crate::log_lines::Area;
+use crate::write_lines::Items;
+use crate::write_lines::ROOM;
 use board::state::Board;
 use libc::STDIN_FILENO;
+use log::BYTES;
 use page::Page;
 use page::SIZE;
 use page::flush;
@@ -36,7 +46,14 @@ fn hold(line: &mut Line, held: usize, byte: u8) -> usize {
 }
 
 // Answers the lines that end in a piece, and holds what is left.
-fn piece(d: Desk, input: &[u8], line: &mut Line, page: &mut Page) -> Desk
+fn piece(
+    d: Desk,
+    input: &[u8],
+    line: &mut Line,
+    area: &mut Area,
+    items: &mut Items,
+    page: &mut Page,
+) -> Desk
     requires { ⌜ Whole d ⌝ }
     ensures { λ r. ⌜ Whole r ⌝ }
 {
@@ -47,7 +64,7 @@ fn piece(d: Desk, input: &[u8], line: &mut Line, page: &mut Page) -> Desk
     while i < input.len() {
         let byte = input[i];
         if byte == b'\n' {
-            b = answer(b, line, held, page);
+            b = answer(b, line, held, area, items, page);
             if b.asked.is_some() {
                 let d = ordered(Desk { bench: b, board }, page);
                 b = d.bench;
@@ -64,11 +81,11 @@ fn piece(d: Desk, input: &[u8], line: &mut Line, page: &mut Page) -> Desk
 }
 
 // Answers the last line, which no line feed ends, and writes out what is left.
-fn finish(d: Desk, line: &Line, page: &mut Page)
+fn finish(d: Desk, line: &Line, area: &mut Area, items: &mut Items, page: &mut Page)
     requires { ⌜ Whole d ⌝ }
 {
     let b = d.bench;
-    let last = answer(b, line, b.held, page);
+    let last = answer(b, line, b.held, area, items, page);
     if last.asked.is_some() {
         let board = d.board;
         let d = ordered(Desk { bench: last, board }, page);
@@ -83,6 +100,8 @@ fn finish(d: Desk, line: &Line, page: &mut Page)
 fn main() {
     let mut input = [0u8; 65536];
     let mut line = [0u8; LONGEST];
+    let mut area = [FILL; BYTES];
+    let mut items = [0u8; ROOM];
     let mut page = [0u8; SIZE];
     let mut d = Desk {
         bench: Bench::new(),
@@ -95,8 +114,8 @@ fn main() {
         if n == 0 {
             break;
         }
-        d = piece(d, &input[..n], &mut line, &mut page);
+        d = piece(d, &input[..n], &mut line, &mut area, &mut items, &mut page);
         turns -= 1;
     }
-    finish(d, &line, &mut page);
+    finish(d, &line, &mut area, &mut items, &mut page);
 }

@@ -2,12 +2,12 @@
 
 use crate::bench::Bench;
 use crate::call_lines::FILL;
-use crate::call_lines::changed;
+use crate::call_lines::checked;
+use crate::record_lines::NO_FILE;
 use crate::wdt_shown::wdt_answer;
 use crate::wdt_shown::wdt_state;
 use oscillator::state::Watchdog;
 use page::Page;
-use page::number;
 use time::units::Cycle;
 use watchdog::call;
 use watchdog::calls::Call;
@@ -111,10 +111,9 @@ fn told(bench: Bench, o: Outcome, area: &[u8], page: &mut Page) -> Bench
     let w = o.watchdog;
     let mut b = bench;
     b.watchdog = w;
-    let end = changed(area, o.written);
-    if end < area.len() {
-        let at = number(page, b.at, b"area changed at ", end as u64);
-        return b.answered(page, at);
+    let c = checked(page, b.at, NO_FILE, area, o.written);
+    if !c.fine {
+        return b.answered(page, c.at);
     }
     let at = wdt_answer(page, b.at, o, area);
     b.answered(page, at)

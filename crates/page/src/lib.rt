@@ -4,6 +4,7 @@ use libc::STDOUT_FILENO;
 use words::EXTRA_WORD;
 use words::MALFORMED;
 use words::MISSING_WORD;
+use words::NOT_OPENED;
 use words::TOO_LARGE;
 use words::UNKNOWN_COMMAND;
 use words::UNKNOWN_KEY;
@@ -92,6 +93,7 @@ fn reason(page: &mut Page, at: usize, why: u8) -> usize {
         EXTRA_WORD => text(page, at, b": extra word"),
         MALFORMED => text(page, at, b": malformed number"),
         TOO_LARGE => text(page, at, b": number too large"),
+        NOT_OPENED => text(page, at, b": file not opened"),
         _ => text(page, at, b": line too long"),
     }
 }

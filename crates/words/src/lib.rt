@@ -27,6 +27,8 @@ pub const TOO_LARGE: u8 = 7;
 
 pub const TOO_LONG: u8 = 8;
 
+pub const NOT_OPENED: u8 = 9;
+
 // What a word says, 0 where it cannot be read.
 pub struct Read {
     pub value: u64,

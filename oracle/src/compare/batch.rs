@@ -25,6 +25,8 @@ pub struct Batch {
     pub scripts: Vec<Script>,
     pub input: Vec<u8>,
     pub answers: Vec<u8>,
+    /// What door.log must hold in the end.
+    pub recorded: Option<Vec<u8>>,
 }
 
 impl Batch {
@@ -42,6 +44,7 @@ impl Batch {
                 break;
             }
         }
+        batch.recorded = play.recorded;
         Ok(batch)
     }
 

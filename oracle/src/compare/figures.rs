@@ -29,6 +29,8 @@ pub struct Figures {
     lines: BTreeMap<String, usize>,
     timers: BTreeMap<&'static str, usize>,
     refused: BTreeMap<u8, usize>,
+    /// Lists of writes, by why they ended.
+    lists: BTreeMap<String, usize>,
     paused: usize,
     records: usize,
     /// The most records that one tick wrote.
@@ -63,6 +65,7 @@ impl Figures {
         if let Some(number) = answer.strip_prefix("refused ") {
             *self.refused.entry(number.parse().unwrap_or_default()).or_default() += 1;
         }
+        self.count_list(name, answer);
         let Some(view) = judge.view().filter(|_| name != "wdt" && name != "board") else { return };
         if answer == "ok config" {
             *self.timers.entry(kind(&view)).or_default() += 1;
@@ -72,11 +75,23 @@ impl Figures {
         if let Some((_, rest)) = answer.split_once("bytes=") {
             let bytes = rest.split(' ').next().and_then(|b| b.parse::<usize>().ok()).unwrap_or_default();
             self.records += bytes / 10;
-            self.most = self.most.max(most_in_a_tick(answer));
+            if name != "writes" {
+                self.most = self.most.max(most_in_a_tick(answer));
+            }
             self.paused += answer.starts_with("paused") as usize;
             self.count_accepted(&view);
             self.count_ticks(line, answer, &view, judge);
         }
+    }
+
+    /// Why a list ended; its calls are not seen one by one, so that a sum and a change of mode end with it.
+    fn count_list(&mut self, name: &str, answer: &str) {
+        let Some((_, why)) = answer.split_once(" why=").filter(|_| name == "writes") else { return };
+        let why = why.split(" bytes=").next().unwrap_or_default();
+        let why = why.split(" cycle=").next().unwrap_or_default();
+        *self.lists.entry(why.into()).or_default() += 1;
+        self.mode = None;
+        self.account.configured();
     }
 
     /// The sums of 2.11, where the judge has an odometer.
@@ -97,7 +112,8 @@ impl Figures {
             self.presets.insert(second.into());
         }
         if ["ok", "paused", "state ", "distance ", "board "].iter().any(|start| answer.starts_with(start)) {
-            let command = if ["sched", "board"].contains(&name) { format!("{name} {second}") } else { name.into() };
+            let command =
+                if ["sched", "board", "door", "log"].contains(&name) { format!("{name} {second}") } else { name.into() };
             self.accepted.insert(command);
         }
     }
@@ -122,7 +138,7 @@ impl Figures {
     fn aims(&self) -> Vec<(&'static str, String, bool)> {
         let mut aims = Vec::new();
         let mut aim = |what, which: String, reached| aims.push((what, which, reached));
-        (1..=11).chain([16, 18]).for_each(|n| aim("refusals", n.to_string(), self.refused.contains_key(&n)));
+        (1..=12).chain([16, 18, 20, 22]).for_each(|n| aim("refusals", n.to_string(), self.refused.contains_key(&n)));
         (0..8).for_each(|m| aim("narrow modes", m.to_string(), self.modes.contains_key(&(false, m))));
         (0..16).for_each(|m| aim("wide modes", m.to_string(), self.modes.contains_key(&(true, m))));
         KINDS.iter().for_each(|&kind| aim("layouts", kind.into(), self.timers.contains_key(kind)));
@@ -164,10 +180,11 @@ fn most_in_a_tick(answer: &str) -> usize {
 
 /// Every command of a script that can be accepted.
 fn commands() -> impl Iterator<Item = String> {
-    let others = ["config", "preset", "state", "distance", "shift", "pin"];
+    let others = ["config", "preset", "state", "distance", "shift", "pin", "writes", "item", "record"];
     let scheduler = ["sched at", "sched cancel", "sched is", "sched pop", "sched clear"];
+    let beside = ["door one", "door two", "door edge", "log add", "log release", "log read"];
     let board = ORDERS.iter().map(|order| order.0).chain(["new", "state"]).map(|name| format!("board {name}"));
-    CALLS.iter().map(|call| call.0).chain(others).chain(scheduler).map(String::from).chain(board)
+    CALLS.iter().map(|call| call.0).chain(others).chain(scheduler).chain(beside).map(String::from).chain(board)
 }
 
 fn kind(view: &View) -> &'static str {
@@ -192,6 +209,7 @@ impl fmt::Display for Figures {
         writeln!(f, "lines: {}", listed(self.lines.iter().map(|(k, &n)| (k, n))))?;
         writeln!(f, "timers: {}", listed(self.timers.iter().map(|(k, &n)| (k, n))))?;
         writeln!(f, "refused by number: {}", listed(self.refused.iter().map(|(k, &n)| (k, n))))?;
+        writeln!(f, "lists of writes by their end: {}", listed(self.lists.iter().map(|(k, &n)| (k, n))))?;
         writeln!(f, "paused advances: {}, records: {}", self.paused, self.records)?;
         writeln!(f, "accepted calls by narrow mode: {}", modes(false))?;
         writeln!(f, "accepted calls by wide mode: {}", modes(true))?;

@@ -12,10 +12,10 @@ use super::batch::{self, Batch};
 use super::figures::Figures;
 use super::{judged, report, Clash};
 use crate::judge::{Follow, Judge};
-use crate::script::play;
+use crate::script::play::{self, RECORDED};
 
 /// Where inputs can end, and what a filter may stumble over.
-const ENDS: [&[u8]; 11] = [
+const ENDS: [&[u8]; 13] = [
     b"",
     b"\n",
     b"\n\n#",
@@ -27,6 +27,8 @@ const ENDS: [&[u8]; 11] = [
     b"state\tstate\n\tstate\n \n  state  ",
     b"\xff\xfe\nstate \xc3\x28\n#\xff\nstate",
     b"sched at 1 1 5\nsched pop 00000000000000000000000000000000005",
+    b"record",
+    b"preset m328p.timer0\nwrite 45 1 0 0\nadvance 1 30\nrecord\nadvance 256 110\nwtimsk 1 256 0\nwrites 110 1180C0000000000001ff\nconfig id=1\nrecord 1",
 ];
 
 /// A program that answers a script on its standard input, and the folder for what it reads and writes.
@@ -38,6 +40,8 @@ pub struct Program {
 
 struct Ran {
     wrote: Vec<u8>,
+    /// What it kept in door.log.
+    recorded: Option<Vec<u8>>,
     status: ExitStatus,
     time: Duration,
 }
@@ -58,12 +62,17 @@ impl Program {
     fn try_run(&self, script: &[u8]) -> io::Result<Ran> {
         let (from, to) = (self.folder.join("script"), self.folder.join("answers"));
         fs::write(&from, script)?;
+        let kept = self.folder.join(RECORDED);
+        if kept.exists() {
+            fs::remove_file(&kept)?;
+        }
         let mut command = Command::new(&self.path);
-        command.args(&self.arguments).stdin(File::open(&from)?).stdout(File::create(&to)?).stderr(Stdio::null());
+        command.current_dir(&self.folder).args(&self.arguments);
+        command.stdin(File::open(&from)?).stdout(File::create(&to)?).stderr(Stdio::null());
         let begun = Instant::now();
         let status = command.status()?;
         let time = begun.elapsed();
-        Ok(Ran { wrote: fs::read(&to)?, status, time })
+        Ok(Ran { wrote: fs::read(&to)?, recorded: fs::read(&kept).ok(), status, time })
     }
 
     /// What it answers to a script; an error where it ends in failure.
@@ -78,10 +87,16 @@ impl Program {
     /// The time that a batch took; an error where its answers are not the judge's.
     fn answers(&self, batch: &Batch) -> Result<Duration, String> {
         let ran = self.run(&batch.input)?;
-        if ran.status.success() && ran.wrote == batch.answers {
-            return Ok(ran.time);
+        if !ran.status.success() || ran.wrote != batch.answers {
+            return Err(self.blame(batch));
         }
-        Err(self.blame(batch))
+        if ran.recorded != batch.recorded {
+            return Err(format!(
+                "seeds from {}: the answers agree, but not what {RECORDED} holds",
+                batch.scripts[0].seed
+            ));
+        }
+        Ok(ran.time)
     }
 
     /// The first script of a batch that the program fails on by itself; else the batch as a whole.
@@ -129,9 +144,10 @@ impl Program {
         let longest = [long(500), long(501), long(100_000), padded, vec![b'#'; 501], vec![b'7'; 5_000]];
         for input in ENDS.iter().map(|end| end.to_vec()).chain(longest) {
             let mut wanted = Vec::new();
-            play::answer_all(Judge::new(Follow::Sheet).counting(), &input[..], &mut wanted).expect("answers in memory");
+            let judge = Judge::new(Follow::Sheet).counting();
+            let recorded = play::answer_all(judge, &input[..], &mut wanted).expect("answers in memory");
             let ran = self.run(&input)?;
-            if !ran.status.success() || ran.wrote != wanted {
+            if !ran.status.success() || ran.wrote != wanted || ran.recorded != recorded {
                 let (input, wanted, wrote) = (shown(&input), shown(&wanted), shown(&ran.wrote));
                 return Err(format!("on the input\n\n{input}\n\njudge: {wanted}\nprogram: {wrote} ({})", ran.status));
             }

@@ -5,7 +5,9 @@ pub mod board;
 mod calls;
 mod configs;
 mod cycles;
+mod lists;
 mod others;
+mod records;
 mod rng;
 mod shifts;
 mod values;
@@ -47,6 +49,11 @@ impl Generator {
             206..=245 => self.pin(),
             246..=285 => self.scheduler(),
             286..=287 => self.unreadable(),
+            288..=297 => self.door(),
+            298..=347 => self.log(),
+            348..=350 => self.say("record".into()),
+            351..=353 => self.items(),
+            354..=363 => self.writes(),
             _ => self.timer_move(),
         }
     }

@@ -3,8 +3,7 @@
 use std::fmt;
 
 use super::answer::{hex, or_none, Answer, Event, State};
-use super::command::exactly;
-use super::words::{self, Read, Why};
+use super::words::{self, exactly, Read, Why};
 
 /// A call on the board, without its cycle and its areas.
 #[derive(Clone, Copy, Debug, PartialEq, Eq)]

@@ -3,7 +3,10 @@
 use super::board::BoardLine;
 use super::config::Config;
 use super::pin::PinLine;
-use super::words::{self, Read, Why};
+use super::words::{self, exactly, Read, Why};
+use crate::door::DoorLine;
+use crate::lists::{Item, WritesLine};
+use crate::log::LogLine;
 use crate::watchdog::Wdt;
 
 /// A call on the timer, without its cycle and its area.
@@ -49,6 +52,11 @@ pub enum Command {
     Sched(Sched),
     Wdt(Wdt),
     Board(BoardLine),
+    Writes(WritesLine),
+    Item(Item),
+    Door(DoorLine),
+    Log(LogLine),
+    Record,
 }
 
 /// The names of the calls, with how many words each has between its name and its cycle.
@@ -90,6 +98,11 @@ impl Command {
             "sched" => read_sched(rest).map(Self::Sched),
             "wdt" => Wdt::read(rest).map(Self::Wdt),
             "board" => BoardLine::read(rest).map(Self::Board),
+            "writes" => WritesLine::read(rest).map(Self::Writes),
+            "item" => Item::read(rest).map(Self::Item),
+            "door" => DoorLine::read(rest).map(Self::Door),
+            "log" => LogLine::read(rest).map(Self::Log),
+            "record" => exactly(rest, 0).map(|()| Self::Record),
             name => {
                 let (_, arguments) = CALLS.iter().find(|c| c.0 == name).ok_or(Why::UnknownCommand)?;
                 exactly(rest, arguments + 2)?;
@@ -98,14 +111,6 @@ impl Command {
                 Ok(Self::Call { call, cycle: words::cycle(last[0])?, area: words::size(last[1])? })
             }
         }
-    }
-}
-
-pub fn exactly(words: &[&str], wanted: usize) -> Read<()> {
-    match words.len() {
-        n if n < wanted => Err(Why::MissingWord),
-        n if n > wanted => Err(Why::ExtraWord),
-        _ => Ok(()),
     }
 }
 

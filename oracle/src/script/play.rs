@@ -1,5 +1,6 @@
 //! A run of one script: lines in, answers out, and the area that every call is given.
 
+use std::fs;
 use std::io::{self, BufRead, Write};
 
 use super::answer::{Answer, Distance, State};
@@ -7,11 +8,17 @@ use super::board::{Areas, BoardLine, BoardState, Order, Told};
 use super::command::{Call, Command, Sched};
 use super::config::Config;
 use super::pin::PinLine;
-use super::words::Why;
+use super::words::{Read, Why};
+use crate::door::Doors;
+use crate::lists::{self, Items, WritesLine};
+use crate::log::Log;
 use crate::watchdog::{Watchdog, Wdt};
 
 /// What stands in every byte of the area before each call.
 const FILL: u8 = 0xa5;
+
+/// Where records are kept.
+pub const RECORDED: &str = "door.log";
 
 /// The longest line in bytes.
 const LONGEST: usize = 500;
@@ -33,14 +40,27 @@ pub trait Side {
 
 pub struct Play<S> {
     pub side: S,
-    /// The same for both sides: the Rust has none.
+    /// The same for both sides: the Rust has none of these.
     watchdog: Option<Watchdog>,
+    pub doors: Doors,
+    log: Log,
+    items: Items,
+    /// What door.log holds, once records are kept.
+    pub recorded: Option<Vec<u8>>,
     lines: usize,
 }
 
 impl<S: Side> Play<S> {
     pub fn new(side: S) -> Self {
-        Self { side, watchdog: None, lines: 0 }
+        Self {
+            side,
+            watchdog: None,
+            doors: Doors::default(),
+            log: Log::default(),
+            items: Items::default(),
+            recorded: None,
+            lines: 0,
+        }
     }
 
     /// Answers the next line; nothing for one without words.
@@ -48,14 +68,18 @@ impl<S: Side> Play<S> {
         self.lines += 1;
         match read_line(line) {
             Ok(None) => None,
-            Ok(Some(command)) => Some(self.run(&command)),
-            Err(why) => Some(format!("error line {}: {why}", self.lines)),
+            Ok(Some(command)) => Some(self.run(&command).unwrap_or_else(|why| self.unreadable(why))),
+            Err(why) => Some(self.unreadable(why)),
         }
     }
 
-    fn run(&mut self, command: &Command) -> String {
-        match command {
-            Command::Config(config) => self.side.configure(config).line(&[]),
+    fn unreadable(&self, why: Why) -> String {
+        format!("error line {}: {why}", self.lines)
+    }
+
+    fn run(&mut self, command: &Command) -> Read<String> {
+        Ok(match command {
+            Command::Config(config) => self.configure(config),
             Command::Call { call, cycle, area } => self.call(*call, *cycle, *area),
             Command::State => self.side.state().map_or(Answer::NoTimer.line(&[]), |s| s.to_string()),
             Command::Distance => self.side.distance().map_or(Answer::NoTimer.line(&[]), |d| d.to_string()),
@@ -64,16 +88,52 @@ impl<S: Side> Play<S> {
             Command::Sched(sched) => self.side.sched(*sched).line(&[]),
             Command::Wdt(wdt) => self.wdt(*wdt),
             Command::Board(line) => self.board(*line),
+            Command::Writes(line) => self.writes(line),
+            Command::Item(item) => self.items.add(*item)?,
+            Command::Door(line) => self.doors.answer(*line),
+            Command::Log(line) => self.log.answer(*line),
+            Command::Record => {
+                self.recorded = Some(Vec::new());
+                "ok recording".into()
+            }
+        })
+    }
+
+    fn configure(&mut self, config: &Config) -> String {
+        let answer = self.side.configure(config);
+        if answer == Answer::Config {
+            self.recorded.as_mut().map(Vec::clear);
         }
+        answer.line(&[])
     }
 
     fn call(&mut self, call: Call, cycle: u64, size: usize) -> String {
         let mut area = vec![FILL; size];
         let answer = self.side.call(call, cycle, &mut area);
-        match area.iter().skip(answer.bytes()).position(|&b| b != FILL) {
-            Some(i) => format!("area changed at {}", answer.bytes() + i),
-            None => answer.line(&area),
+        self.told(answer.line(&area), &area, answer.bytes())
+    }
+
+    fn writes(&mut self, line: &WritesLine) -> String {
+        if self.side.state().is_none() {
+            return Answer::NoTimer.line(&[]);
         }
+        let Some(items) = self.items.of(line) else {
+            return Answer::Refused(12).line(&[]);
+        };
+        let mut area = vec![FILL; line.area];
+        let (answer, bytes) = lists::work(&mut self.side, &items, &mut area);
+        self.told(answer, &area, bytes)
+    }
+
+    /// The answer, unless the area changed beyond the bytes written; these are kept.
+    fn told(&mut self, answer: String, area: &[u8], bytes: usize) -> String {
+        if let Some(i) = area[bytes..].iter().position(|&b| b != FILL) {
+            return format!("area changed at {}", bytes + i);
+        }
+        if let Some(recorded) = &mut self.recorded {
+            recorded.extend(&area[..bytes]);
+        }
+        answer
     }
 
     fn board(&mut self, line: BoardLine) -> String {
@@ -120,18 +180,20 @@ pub fn read_line(line: &[u8]) -> Result<Option<Command>, Why> {
     Command::read(&words).map(Some)
 }
 
-/// Answers a whole script.
-pub fn answer_all(side: impl Side, script: impl BufRead, mut to: impl Write) -> io::Result<()> {
+/// Answers a whole script; yields what door.log is to hold.
+pub fn answer_all(side: impl Side, script: impl BufRead, mut to: impl Write) -> io::Result<Option<Vec<u8>>> {
     let mut play = Play::new(side);
     for line in script.split(b'\n') {
         if let Some(answer) = play.answer(&line?) {
             writeln!(to, "{answer}")?;
         }
     }
-    to.flush()
+    to.flush()?;
+    Ok(play.recorded)
 }
 
-/// Answers standard input on standard output.
+/// Answers standard input on standard output, and keeps door.log in the folder that it is started in.
 pub fn serve(side: impl Side) -> io::Result<()> {
-    answer_all(side, io::stdin().lock(), io::BufWriter::new(io::stdout().lock()))
+    let recorded = answer_all(side, io::stdin().lock(), io::BufWriter::new(io::stdout().lock()))?;
+    recorded.map_or(Ok(()), |bytes| fs::write(RECORDED, bytes))
 }

@@ -79,12 +79,46 @@ pub fn size(word: &str) -> Read<usize> {
     number(word, 10, 4096).map(|v| v as usize)
 }
 
+/// A decimal number below a bound.
+pub fn below(word: &str, bound: u64) -> Read<u64> {
+    number(word, 10, bound - 1)
+}
+
 pub fn hex8(word: &str) -> Read<u8> {
     number(word, 16, 0xff).map(|v| v as u8)
 }
 
 pub fn hex16(word: &str) -> Read<u16> {
     number(word, 16, 0xffff).map(|v| v as u16)
+}
+
+/// Ten bits, as an item of a list has for its address.
+pub fn hex10(word: &str) -> Read<u16> {
+    number(word, 16, 0x3ff).map(|v| v as u16)
+}
+
+/// Bytes, two digits each, at most so many; `-` is none.
+pub fn bytes(word: &str, most: usize) -> Read<Vec<u8>> {
+    if word == "-" {
+        return Ok(Vec::new());
+    }
+    if word.len() % 2 != 0 {
+        return Err(Why::MalformedNumber);
+    }
+    if word.len() / 2 > most {
+        return Err(Why::NumberTooLarge);
+    }
+    let digit = |glyph: u8| (glyph as char).to_digit(16).ok_or(Why::MalformedNumber);
+    word.as_bytes().chunks(2).map(|two| Ok((digit(two[0])? << 4 | digit(two[1])?) as u8)).collect()
+}
+
+/// As many words as wanted.
+pub fn exactly(words: &[&str], wanted: usize) -> Read<()> {
+    match words.len() {
+        n if n < wanted => Err(Why::MissingWord),
+        n if n > wanted => Err(Why::ExtraWord),
+        _ => Ok(()),
+    }
 }
 
 /// `-` for an absent unit, else what `read` makes of the word.

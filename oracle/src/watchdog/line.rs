@@ -1,6 +1,6 @@
 //! A `wdt` line of a script.
 
-use crate::script::words::{self, Read, Why};
+use crate::script::words::{self, exactly, Read, Why};
 
 #[derive(Clone, Copy, Debug, PartialEq, Eq)]
 pub enum Wdt {
@@ -23,11 +23,7 @@ impl Wdt {
             "advance" | "write" => 2,
             _ => return Err(Why::UnknownCommand),
         };
-        match a.len() {
-            n if n < arguments => return Err(Why::MissingWord),
-            n if n > arguments => return Err(Why::ExtraWord),
-            _ => {}
-        }
+        exactly(a, arguments)?;
         Ok(match *name {
             "new" => Self::New,
             "state" => Self::State,

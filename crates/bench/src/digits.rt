@@ -1,0 +1,70 @@
+// Bytes as a word of hexadecimal digits, two for each.
+
+use page::Page;
+use page::text;
+use page::two;
+use words::Cursor;
+use words::FINE;
+use words::MALFORMED;
+use words::Read;
+use words::TOO_LARGE;
+use words::find;
+use words::low8;
+use words::numeral;
+use words::skip;
+use words::unread;
+ghost use Prim.Native.Nat.{_≤_};
+ghost use lib.ListN.{length};
+
+// Takes the bytes of a word; yields how many, too large where there is no place for all of them.
+fn taken(word: &[u8], out: &mut [u8]) -> Read
+    ensures { λ r. ⌜ r .value ≤ length (now (out .exit)) ⌝ }
+{
+    if word.len() % 2 != 0 {
+        return unread(MALFORMED);
+    }
+    let n = word.len() / 2;
+    if out.len() < n {
+        return unread(TOO_LARGE);
+    }
+    let mut i = 0;
+    while i < n {
+        let from = 2 * i;
+        let r = numeral(&word[from..from + 2], 16, 0xff);
+        if r.why != FINE {
+            return unread(MALFORMED);
+        }
+        out[i] = low8(r.value);
+        i += 1;
+    }
+    Read {
+        value: n as u64,
+        why: FINE,
+    }
+}
+
+// Takes the bytes of the next word, none of `-`.
+pub fn bytes(line: &[u8], c: Cursor, out: &mut [u8]) -> Read
+    ensures { λ r. ⌜ r .value ≤ length (now (out .exit)) ⌝ }
+{
+    if c.why != FINE {
+        return unread(c.why);
+    }
+    let start = skip(line, c.at);
+    let end = find(line, start, b' ');
+    if check::same(&line[start..end], b"-") {
+        return unread(FINE);
+    }
+    taken(&line[start..end], out)
+}
+
+// Puts a label and the digits of some bytes; yields the place after them.
+pub fn digits(page: &mut Page, from: usize, label: &[u8], bytes: &[u8]) -> usize {
+    let mut at = text(page, from, label);
+    let mut i = 0;
+    while i < bytes.len() {
+        at = two(page, at, bytes[i]);
+        i += 1;
+    }
+    at
+}

@@ -1,0 +1,72 @@
+// The file that the records of a script's timer go to, for the dump.
+
+use crate::bench::Bench;
+use page::Page;
+use words::FINE;
+use words::NOT_OPENED;
+use words::exactly;
+ghost use Rattle.bench.specs.Bench.{Sound};
+
+// No descriptor: records go nowhere.
+pub const NO_FILE: i32 = -1;
+
+// A descriptor, and why there is none.
+pub struct File {
+    pub fd: i32,
+    pub why: u8,
+}
+
+// Begins door.log anew in place of the descriptor that records go to, which stays open where that fails.
+fn anew(fd: i32) -> File {
+    let next = os::open_overwrite(b"door.log");
+    if next < 0 {
+        return File {
+            fd,
+            why: NOT_OPENED,
+        };
+    }
+    if 0 <= fd {
+        libc::close(fd);
+    }
+    File {
+        fd: next,
+        why: FINE,
+    }
+}
+
+// The file for a fresh timer: begun anew where records are kept.
+pub fn begun(fd: i32) -> File {
+    if 0 <= fd {
+        return anew(fd);
+    }
+    File { fd, why: FINE }
+}
+
+// Appends the bytes that a call wrote; yields whether the file took them.
+pub fn kept(fd: i32, area: &[u8], written: usize) -> bool {
+    if fd < 0 {
+        return true;
+    }
+    if written <= area.len() {
+        return io::write_all(fd, &area[0..written]);
+    }
+    true
+}
+
+// Answers a record line from the place after its name.
+pub fn record_line(b: Bench, line: &[u8], at: usize, page: &mut Page) -> Bench
+    requires { ⌜ Sound b ⌝ }
+    ensures { λ r. ⌜ Sound r ⌝ }
+{
+    let end = exactly(line, at, 0);
+    if end.why != FINE {
+        return b.unreadable(page, end.why);
+    }
+    let file = anew(b.file);
+    if file.why != FINE {
+        return b.unreadable(page, file.why);
+    }
+    let mut b = b;
+    b.file = file.fd;
+    b.says(page, b"ok recording")
+}
