@@ -1,5 +1,6 @@
 # make run                                        the door story of examples/, answered by the bench program
 # make run SCRIPT=my.script                       a script of your own
+# make waves [SCRIPT=my.script]                   the pins of a script as a value change dump, shown by GTKWave where that is installed
 # make soak DIR=scripts [CORES=2]                 every script of a folder, on all cores
 # make test                                       the gate: proofs, wrong programs refused, programs run
 # make oracle MCS=../MCS                          the Rust as judge; MCS is a checkout of GabePurc/MCS at fb281a0906
@@ -24,13 +25,17 @@ WARN := -Wall -Wextra -Wpedantic -Werror
 
 CARGO := MCS="$(abspath $(MCS))" cargo
 
-.PHONY: run soak test oracle against-bench library bindings simavr speed
+.PHONY: run waves soak test oracle against-bench library bindings simavr speed
 .DELETE_ON_ERROR:
 
 # Each command of the script with its answer under it; the story's answers are held to those that are stored.
 run:
 	$(if $(shell test -f "$(SCRIPT)" && test -r "$(SCRIPT)" && echo yes),,$(error run: there is no script $(SCRIPT) that can be read))
 	@examples/run.sh "$(SCRIPT)"
+
+waves:
+	$(if $(shell test -f "$(SCRIPT)" && test -r "$(SCRIPT)" && echo yes),,$(error waves: there is no script $(SCRIPT) that can be read))
+	@examples/waves.sh "$(SCRIPT)"
 
 soak:
 	$(if $(shell test -d "$(DIR)" && echo yes),,$(error soak: name a folder of scripts, as in: make soak DIR=scripts))
