@@ -3,3 +3,4 @@ pub mod Following
 pub mod Late
 pub mod Signs
 pub mod Refusals
+pub mod Within

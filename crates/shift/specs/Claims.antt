@@ -1,21 +1,25 @@
 -- What is claimed of a late edge (02, 2.9). Proofs stand apart, in proofs/.
-use Prim.Native.Nat.{ℕ, _+_, _/_, _%_}
+use Prim.Native.Nat.{ℕ, _+_, _/_, _%_, _≤_}
 use mathlib.Core.Bool.{Bool, true, false}
 use mathlib.Core.List.{List, [], _∷_}
 use mathlib.Core.Logic.{_⊎_}
 use mathlib.Core.Path.{_≡_}
+use lib.IntN.{ℤ, natAbs}
 use Rattle.config.specs.declared.Config.{Config}
 use Rattle.config.specs.Config.{accepted}
 use Rattle.wave.specs.Kinds.{N}
 use Rattle.counter.specs.declared.state.Timer.{Timer}
 use Rattle.counter.specs.Fresh.{freshOf}
 use Rattle.counter.specs.Modes.{modeOf, kindAt, maxAt, divisorOf, runningOf}
+use Rattle.counter.specs.Valid.{Valid}
 use Rattle.passage.specs.Passage.{ticks}
 use Rattle.timer.specs.declared.calls.Call.{Call}
 use Rattle.timer.specs.declared.calls.Call.the-variants as call
 use Rattle.timer.specs.Calls.{edgeCaptures, outputCaptures}
 use Rattle.timer.specs.Claims.{Request, told, last}
 use Rattle.outlook.specs.Announced.{touches}
+use Rattle.shift.specs.declared.Moved.the-variants.{By}
+use Rattle.shift.specs.Shift.{shiftOf}
 
 -- through a list no call that touches the next event is accepted: none is a register write, a halt, the own prescaler's reset or a reset (02, 2.9)
 unfoldable pub Undisturbed : Timer → List Request → Type 0
@@ -64,3 +68,7 @@ Late = (c : Config) → accepted c ≡ true → (qs : List Request) → let t = 
     runningOf t ≡ true → kindAt (t .config .wide) (modeOf t) ≡ N
     → (xs ys : List Request) (a b : Request) (e : ℕ) → Captures t xs a → Captures t ys b → b .cycle ≡ a .cycle + e
     → Later (maxAt (t .config .wide) + 1) (divisorOf t) e (captured t xs a) (captured t ys b)
+
+-- Within: the signed shift lies from −32767 to 32767 (02, 2.9: from −32768 to 32767)
+abbrev pub Within : Type 0
+Within = (t : Timer) → Valid t → (first second : ℕ) (z : ℤ) → shiftOf t first second ≡ By z → natAbs z ≤ 32767
