@@ -223,12 +223,10 @@ impl Config {
         let b = self.b;
         let c = self.c;
         let icr = self.icr;
-        let two = Few::new()
-            .also(true, self.tov as u32)
-            .also(a.present, a.flag as u32);
-        let four = two.also(b.present, b.flag as u32)
-            .also(c.present, c.flag as u32);
-        four.also(icr.present, icr.flag as u32)
+        Few::five(
+            [true, a.present, b.present, c.present, icr.present],
+            [self.tov, a.flag, b.flag, c.flag, icr.flag],
+        )
     }
 
     // The pins it has.
@@ -244,12 +242,10 @@ impl Config {
         let wc = c.wire;
         let wi = icr.wire;
         let wt = self.t;
-        let two = Few::new()
-            .also(wa.present, wa.pin as u32)
-            .also(wb.present, wb.pin as u32);
-        let four = two.also(wc.present, wc.pin as u32)
-            .also(wi.present, wi.pin as u32);
-        four.also(wt.present, wt.pin as u32)
+        Few::five(
+            [wa.present, wb.present, wc.present, wi.present, wt.present],
+            [wa.pin, wb.pin, wc.pin, wi.pin, wt.pin],
+        )
     }
 
     // Owned addresses are distinct and at most 511.

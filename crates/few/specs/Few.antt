@@ -2,7 +2,7 @@
 use Prim.Native.Nat.{ℕ, _+_}
 use mathlib.Core.Bool.{Bool, true, false, cond, not, _&&_, _||_}
 use mathlib.Core.List.{List, [], _∷_, _++_}
-use lib.ListN.{take}
+use lib.ListN.{take, getD}
 use lib.Dec.{eqb, leb}
 use Rattle.few.specs.declared.Few.{Few}
 
@@ -13,6 +13,15 @@ held f = take (f .len) (f .items)
 -- one more, where it is wanted
 unfoldable pub also : Bool → ℕ → List ℕ → List ℕ
 also wanted x l = cond wanted (l ++ (x ∷ [])) l
+
+-- those of five that are wanted
+abbrev pub five : List Bool → List ℕ → List ℕ
+five wanted items =
+    also (getD wanted 4 false) (getD items 4 0)
+    (also (getD wanted 3 false) (getD items 3 0)
+    (also (getD wanted 2 false) (getD items 2 0)
+    (also (getD wanted 1 false) (getD items 1 0)
+    (also (getD wanted 0 false) (getD items 0 0) []))))
 
 -- a register's address, with that of its high byte when wide
 abbrev pub register : Bool → Bool → ℕ → List ℕ → List ℕ

@@ -3,8 +3,15 @@
 ghost use mathlib.Core.Path.{_≡_};
 ghost use mathlib.Core.List.{[]};
 ghost use Prim.Native.Nat.{_+_, _<_, _≤_};
-ghost use Rattle.few.specs.Few.{held, also, register, has, distinct, within};
+ghost use Rattle.few.specs.Few.{held, also, five, register, has, distinct, within};
 ghost use lib.ListN.{drop};
+
+// A byte as a wider number.
+fn wide(x: u8) -> u32
+    ensures { λ r. ⌜ r ≡ x ⌝ }
+{
+    x as u32
+}
 
 pub struct Few {
     items: [u32; 13],
@@ -36,6 +43,18 @@ impl Few {
         } else {
             f
         }
+    }
+
+    // Those of five that are wanted.
+    pub fn five(wanted: [bool; 5], items: [u8; 5]) -> Few
+        ensures { λ r. ⌜ (held r ≡ five wanted items) × (r .len ≤ 5) ⌝ }
+    {
+        let two = Few::new()
+            .also(wanted[0], wide(items[0]))
+            .also(wanted[1], wide(items[1]));
+        let four = two.also(wanted[2], wide(items[2]))
+            .also(wanted[3], wide(items[3]));
+        four.also(wanted[4], wide(items[4]))
     }
 
     // A register's address, and that of its high byte in a wide timer.

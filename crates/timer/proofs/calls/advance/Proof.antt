@@ -9,7 +9,7 @@ use Rattle.timer.proofs.calls.advance.Tie as tie
 
 returns : tie.Need-returns
 unfolding refusalOf asks
-returns c = turned-away (c .before .before .before .before .args .t) call.Advance (c .before .before .before .before .args .cycle .0) (c .before .before .before .before .args .area .now) (c .before .before .before .before .pre) (c .before .before .late .ensures ∙ sym (late-alone _ _)) (c .before .if1 .taken) (c .refused .ensures)
+returns c = turned-away _ _ _ _ (c .before .before .before .before .pre) (c .before .before .late .ensures ∙ sym (late-alone _ _)) (c .before .if1 .taken) (c .refused .ensures)
 
 advance-requires : tie.Need-advance-requires
 unfolding refusalOf asks

@@ -12,7 +12,7 @@ refusal-requires c κs = c .before .pre
 
 returns : tie.Need-returns
 unfolding refusalOf asks
-returns c = turned-away (c .before .before .before .before .args .t) (call.Edge (c .before .before .before .before .args .pin) (c .before .before .before .before .args .level)) (c .before .before .before .before .args .cycle .0) (c .before .before .before .before .args .area .now) (c .before .before .before .before .pre) (c .before .before .refusal .ensures) (c .before .if1 .taken) (c .refused .ensures)
+returns c = turned-away _ _ _ _ (c .before .before .before .before .pre) (c .before .before .refusal .ensures) (c .before .if1 .taken) (c .refused .ensures)
 
 sync-requires : tie.Need-sync-requires
 unfolding refusalOf asks
@@ -26,7 +26,7 @@ same-length c = c .before .before .logged .kept .1 .1 .1 .0
 
 returns-2 : tie.Need-returns-2
 unfolding refusalOf asks works says edgeCaptures
-returns-2 c = filed (c .before .before .before .before .before .before .before .before .before .before .before .before .before .before .before .before .before .before .args .t) (call.Edge (c .before .before .before .before .before .before .before .before .before .before .before .before .before .before .before .before .before .before .args .pin) (c .before .before .before .before .before .before .before .before .before .before .before .before .before .before .before .before .before .before .args .level)) (c .before .before .before .before .before .before .before .before .before .before .before .before .before .before .before .before .before .before .args .cycle .0) (c .before .before .before .before .before .before .before .before .before .before .before .before .before .before .before .before .before .before .args .area .now) (in-time _ _ _ _ (c .before .before .before .before .before .before .before .before .before .before .before .before .before .before .before .before .before .before .pre) (c .before .before .before .before .before .before .before .before .before .before .before .before .before .before .before .before .refusal .ensures) (c .before .before .before .before .before .before .before .before .before .before .before .before .before .before .before .if1 .left) refl (rw (← c .before .before .before .before .before .before .before .before .before .is-pin .ensures, ← c .before .before .before .before .before .before .before .captures .ensures, c .before .before .before .before .before .before .if2 .taken)) (c .before .before .before .before .before .sync .ensures)) (rw (same-edge (kept _ _ (c .before .before .before .before .before .sync .ensures)), edgeCaptures, ← c .before .before .before .before .before .before .before .before .before .is-pin .ensures, ← c .before .before .before .before .before .before .before .captures .ensures, c .before .before .before .before .before .before .if2 .taken) (c .before .before .before .before .captured .ensures)) refl (c .before .before .logged .ensures)
+returns-2 c = filed _ _ _ _ (in-time _ _ _ _ (c .before .before .before .before .before .before .before .before .before .before .before .before .before .before .before .before .before .before .pre) (c .before .before .before .before .before .before .before .before .before .before .before .before .before .before .before .before .refusal .ensures) (c .before .before .before .before .before .before .before .before .before .before .before .before .before .before .before .if1 .left) refl (rw (← c .before .before .before .before .before .before .before .before .before .is-pin .ensures, ← c .before .before .before .before .before .before .before .captures .ensures, c .before .before .before .before .before .before .if2 .taken)) (c .before .before .before .before .before .sync .ensures)) (rw (same-edge (kept _ _ (c .before .before .before .before .before .sync .ensures)), edgeCaptures, ← c .before .before .before .before .before .before .before .before .before .is-pin .ensures, ← c .before .before .before .before .before .before .before .captures .ensures, c .before .before .before .before .before .before .if2 .taken) (c .before .before .before .before .captured .ensures)) refl (c .before .before .logged .ensures)
 
 tick-requires : tie.Need-tick-requires
 unfolding refusalOf asks
@@ -40,11 +40,11 @@ same-length-2 c = c .before .before .logged2 .kept .1 .1 .1 .0
 
 returns-3 : tie.Need-returns-3
 unfolding refusalOf asks works says edgeCaptures edgeTicks
-returns-3 c = filed (c .before .before .before .before .before .before .before .before .before .before .before .before .before .before .before .before .before .before .before .before .before .args .t) (call.Edge (c .before .before .before .before .before .before .before .before .before .before .before .before .before .before .before .before .before .before .before .before .before .args .pin) (c .before .before .before .before .before .before .before .before .before .before .before .before .before .before .before .before .before .before .before .before .before .args .level)) (c .before .before .before .before .before .before .before .before .before .before .before .before .before .before .before .before .before .before .before .before .before .args .cycle .0) (c .before .before .before .before .before .before .before .before .before .before .before .before .before .before .before .before .before .before .before .before .before .args .area .now) (at-once _ _ _ _ (c .before .before .before .before .before .before .before .before .before .before .before .before .before .before .before .before .before .before .before .before .before .pre) (c .before .before .before .before .before .before .before .before .before .before .before .before .before .before .before .before .before .before .before .refusal .ensures) (c .before .before .before .before .before .before .before .before .before .before .before .before .before .before .before .before .before .before .if1 .left) refl (rw (← c .before .before .before .before .before .before .before .before .before .before .before .before .is-pin .ensures, ← c .before .before .before .before .before .before .before .before .before .before .captures .ensures, c .before .before .before .before .before .before .before .before .before .if2 .left))) (rw (← c .before .before .before .before .before .before .before .before .before .before .before .before .is-pin .ensures, ← c .before .before .before .before .before .before .before .before .before .before .captures .ensures, c .before .before .before .before .before .before .before .before .before .if2 .left, ← c .before .before .before .before .before .before .before .before .is-pin2 .ensures, ← c .before .before .before .before .before .before .before .ticks-on .ensures, c .before .before .before .before .before .before .if3 .taken, ← c .before .before .before .before .before .synced .ensures) (c .before .before .before .before .tick .ensures)) refl (c .before .before .logged2 .ensures)
+returns-3 c = filed _ _ _ _ (at-once _ _ _ _ (c .before .before .before .before .before .before .before .before .before .before .before .before .before .before .before .before .before .before .before .before .before .pre) (c .before .before .before .before .before .before .before .before .before .before .before .before .before .before .before .before .before .before .before .refusal .ensures) (c .before .before .before .before .before .before .before .before .before .before .before .before .before .before .before .before .before .before .if1 .left) refl (rw (← c .before .before .before .before .before .before .before .before .before .before .before .before .is-pin .ensures, ← c .before .before .before .before .before .before .before .before .before .before .captures .ensures, c .before .before .before .before .before .before .before .before .before .if2 .left))) (rw (← c .before .before .before .before .before .before .before .before .before .before .before .before .is-pin .ensures, ← c .before .before .before .before .before .before .before .before .before .before .captures .ensures, c .before .before .before .before .before .before .before .before .before .if2 .left, ← c .before .before .before .before .before .before .before .before .is-pin2 .ensures, ← c .before .before .before .before .before .before .before .ticks-on .ensures, c .before .before .before .before .before .before .if3 .taken, ← c .before .before .before .before .before .synced .ensures) (c .before .before .before .before .tick .ensures)) refl (c .before .before .logged2 .ensures)
 
 returns-4 : tie.Need-returns-4
 unfolding refusalOf asks works says edgeCaptures edgeTicks
-returns-4 c = plainly (c .before .before .before .before .before .before .before .before .before .before .before .before .before .before .before .before .args .t) (call.Edge (c .before .before .before .before .before .before .before .before .before .before .before .before .before .before .before .before .args .pin) (c .before .before .before .before .before .before .before .before .before .before .before .before .before .before .before .before .args .level)) (c .before .before .before .before .before .before .before .before .before .before .before .before .before .before .before .before .args .cycle .0) (c .before .before .before .before .before .before .before .before .before .before .before .before .before .before .before .before .args .area .now) (at-once _ _ _ _ (c .before .before .before .before .before .before .before .before .before .before .before .before .before .before .before .before .pre) (c .before .before .before .before .before .before .before .before .before .before .before .before .before .before .refusal .ensures) (c .before .before .before .before .before .before .before .before .before .before .before .before .before .if1 .left) refl (rw (← c .before .before .before .before .before .before .before .is-pin .ensures, ← c .before .before .before .before .before .captures .ensures, c .before .before .before .before .if2 .left))) (c .before .before .before .before .before .before .before .before .before .before .before .before .before .before .before .before .args .t) (rw (← c .before .before .before .before .before .before .before .is-pin .ensures, ← c .before .before .before .before .before .captures .ensures, c .before .before .before .before .if2 .left, ← c .before .before .before .is-pin2 .ensures, ← c .before .before .ticks-on .ensures, c .before .if3 .left)) (rw (← c .before .before .before .before .before .before .before .is-pin .ensures, ← c .before .before .before .before .before .captures .ensures, c .before .before .before .before .if2 .left, ← c .before .before .before .is-pin2 .ensures, ← c .before .before .ticks-on .ensures, c .before .if3 .left)) refl refl (c .done .ensures)
+returns-4 c = plainly _ _ _ _ (at-once _ _ _ _ (c .before .before .before .before .before .before .before .before .before .before .before .before .before .before .before .before .pre) (c .before .before .before .before .before .before .before .before .before .before .before .before .before .before .refusal .ensures) (c .before .before .before .before .before .before .before .before .before .before .before .before .before .if1 .left) refl (rw (← c .before .before .before .before .before .before .before .is-pin .ensures, ← c .before .before .before .before .before .captures .ensures, c .before .before .before .before .if2 .left))) (c .before .before .before .before .before .before .before .before .before .before .before .before .before .before .before .before .args .t) (rw (← c .before .before .before .before .before .before .before .is-pin .ensures, ← c .before .before .before .before .before .captures .ensures, c .before .before .before .before .if2 .left, ← c .before .before .before .is-pin2 .ensures, ← c .before .before .ticks-on .ensures, c .before .if3 .left)) (rw (← c .before .before .before .before .before .before .before .is-pin .ensures, ← c .before .before .before .before .before .captures .ensures, c .before .before .before .before .if2 .left, ← c .before .before .before .is-pin2 .ensures, ← c .before .before .ticks-on .ensures, c .before .if3 .left)) refl refl (c .done .ensures)
 
 pub edge-spec : {M : Type 1} → statement M
 edge-spec =

@@ -1,6 +1,5 @@
 use mathlib.Core.Path.{refl}
 use Rattle.timer.proofs.Outcomes.{turned-away, at-once, plainly}
-use Rattle.timer.specs.declared.calls.Call.the-variants as call
 use Rattle.timer.specs.Calls.{asks, works, says, refusalOf}
 use borrow.Author.Needs.{needs}
 use Rattle.timer.proofs.calls.next.Statement.{statement}
@@ -11,14 +10,14 @@ refusal-requires c κs = c .before .pre
 
 returns : tie.Need-returns
 unfolding refusalOf asks
-returns c = turned-away (c .before .before .before .before .args .t) call.Next (c .before .before .before .before .args .cycle .0) (c .before .before .before .before .args .area .now) (c .before .before .before .before .pre) (c .before .before .refusal .ensures) (c .before .if1 .taken) (c .refused .ensures)
+returns c = turned-away _ _ _ _ (c .before .before .before .before .pre) (c .before .before .refusal .ensures) (c .before .if1 .taken) (c .refused .ensures)
 
 next-requires : tie.Need-next-requires
 next-requires c κs = c .before .before .before .pre
 
 returns-2 : tie.Need-returns-2
 unfolding refusalOf asks works says
-returns-2 c = plainly (c .before .before .before .before .before .args .t) call.Next (c .before .before .before .before .before .args .cycle .0) (c .before .before .before .before .before .args .area .now) (at-once _ _ _ _ (c .before .before .before .before .before .pre) (c .before .before .before .refusal .ensures) (c .before .before .if1 .left) refl refl) _ refl refl (rw (c .before .next .ensures)) refl (c .done .ensures)
+returns-2 c = plainly _ _ _ _ (at-once _ _ _ _ (c .before .before .before .before .before .pre) (c .before .before .before .refusal .ensures) (c .before .before .if1 .left) refl refl) _ refl refl (rw (c .before .next .ensures)) refl (c .done .ensures)
 
 pub next-spec : {M : Type 1} → statement M
 next-spec = tie.close (tie.spec refusal-requires (λ c κs. search needs) returns next-requires (λ c κs. search needs) returns-2)

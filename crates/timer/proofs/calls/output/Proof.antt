@@ -12,7 +12,7 @@ refusal-requires c κs = c .before .pre
 
 returns : tie.Need-returns
 unfolding refusalOf asks
-returns c = turned-away (c .before .before .before .before .args .t) (call.Output (c .before .before .before .before .args .level)) (c .before .before .before .before .args .cycle .0) (c .before .before .before .before .args .area .now) (c .before .before .before .before .pre) (c .before .before .refusal .ensures) (c .before .if1 .taken) (c .refused .ensures)
+returns c = turned-away _ _ _ _ (c .before .before .before .before .pre) (c .before .before .refusal .ensures) (c .before .if1 .taken) (c .refused .ensures)
 
 sync-requires : tie.Need-sync-requires
 unfolding refusalOf asks
@@ -26,11 +26,11 @@ same-length c = c .before .before .logged .kept .1 .1 .1 .0
 
 returns-2 : tie.Need-returns-2
 unfolding refusalOf asks works says outputCaptures
-returns-2 c = filed (c .before .before .before .before .before .before .before .before .before .before .before .before .before .args .t) (call.Output (c .before .before .before .before .before .before .before .before .before .before .before .before .before .args .level)) (c .before .before .before .before .before .before .before .before .before .before .before .before .before .args .cycle .0) (c .before .before .before .before .before .before .before .before .before .before .before .before .before .args .area .now) (in-time _ _ _ _ (c .before .before .before .before .before .before .before .before .before .before .before .before .before .pre) (c .before .before .before .before .before .before .before .before .before .before .before .refusal .ensures) (c .before .before .before .before .before .before .before .before .before .before .if1 .left) refl (rw (← c .before .before .before .before .before .before .before .before .captures .ensures, c .before .before .before .before .before .before .if2 .taken)) (c .before .before .before .before .before .sync .ensures)) (rw (same-output (kept _ _ (c .before .before .before .before .before .sync .ensures)), outputCaptures, ← c .before .before .before .before .before .before .before .before .captures .ensures, c .before .before .before .before .before .before .if2 .taken) (c .before .before .before .before .captured .ensures)) refl (c .before .before .logged .ensures)
+returns-2 c = filed _ _ _ _ (in-time _ _ _ _ (c .before .before .before .before .before .before .before .before .before .before .before .before .before .pre) (c .before .before .before .before .before .before .before .before .before .before .before .refusal .ensures) (c .before .before .before .before .before .before .before .before .before .before .if1 .left) refl (rw (← c .before .before .before .before .before .before .before .before .captures .ensures, c .before .before .before .before .before .before .if2 .taken)) (c .before .before .before .before .before .sync .ensures)) (rw (same-output (kept _ _ (c .before .before .before .before .before .sync .ensures)), outputCaptures, ← c .before .before .before .before .before .before .before .before .captures .ensures, c .before .before .before .before .before .before .if2 .taken) (c .before .before .before .before .captured .ensures)) refl (c .before .before .logged .ensures)
 
 returns-3 : tie.Need-returns-3
 unfolding refusalOf asks works says outputCaptures
-returns-3 c = plainly (c .before .before .before .before .before .before .before .before .args .t) (call.Output (c .before .before .before .before .before .before .before .before .args .level)) (c .before .before .before .before .before .before .before .before .args .cycle .0) (c .before .before .before .before .before .before .before .before .args .area .now) (at-once _ _ _ _ (c .before .before .before .before .before .before .before .before .pre) (c .before .before .before .before .before .before .refusal .ensures) (c .before .before .before .before .before .if1 .left) refl (rw (← c .before .before .before .captures .ensures, c .before .if2 .left))) (c .before .before .before .before .before .before .before .before .args .t) (rw (← c .before .before .before .captures .ensures, c .before .if2 .left)) (rw (← c .before .before .before .captures .ensures, c .before .if2 .left)) refl refl (c .done .ensures)
+returns-3 c = plainly _ _ _ _ (at-once _ _ _ _ (c .before .before .before .before .before .before .before .before .pre) (c .before .before .before .before .before .before .refusal .ensures) (c .before .before .before .before .before .if1 .left) refl (rw (← c .before .before .before .captures .ensures, c .before .if2 .left))) (c .before .before .before .before .before .before .before .before .args .t) (rw (← c .before .before .before .captures .ensures, c .before .if2 .left)) (rw (← c .before .before .before .captures .ensures, c .before .if2 .left)) refl refl (c .done .ensures)
 
 pub output-spec : {M : Type 1} → statement M
 output-spec = tie.close (tie.spec refusal-requires (λ c κs. search needs) returns (λ c κs. search needs) sync-requires (λ c κs. search needs) logged-requires same-length returns-2 (λ c κs. search needs) returns-3)

@@ -11,7 +11,7 @@ refusal-requires c κs = c .before .before .before .pre
 
 returns : tie.Need-returns
 unfolding refusalOf asks
-returns c = turned-away (c .before .before .before .before .before .before .args .t) (call.Peek (c .before .before .before .before .before .before .args .address)) (c .before .before .before .before .before .before .args .cycle .0) (c .before .before .before .before .before .before .args .area .now) (c .before .before .before .before .before .before .pre) (rw (c .before .before .before .place .ensures) at (c .before .before .refusal .ensures)) (c .before .if1 .taken) (c .refused .ensures)
+returns c = turned-away _ _ _ _ (c .before .before .before .before .before .before .pre) (rw (c .before .before .before .place .ensures) at (c .before .before .refusal .ensures)) (c .before .if1 .taken) (c .refused .ensures)
 
 sync-requires : tie.Need-sync-requires
 unfolding refusalOf asks
@@ -19,7 +19,7 @@ sync-requires c κs = sync-asked (c .before .before .before .before .before .arg
 
 returns-2 : tie.Need-returns-2
 unfolding refusalOf asks works says
-returns-2 c = plainly (c .before .before .before .before .before .before .before .before .args .t) (call.Peek (c .before .before .before .before .before .before .before .before .args .address)) (c .before .before .before .before .before .before .before .before .args .cycle .0) (c .before .before .before .before .before .before .before .before .args .area .now) (in-time _ _ _ _ (c .before .before .before .before .before .before .before .before .pre) (rw (c .before .before .before .before .before .place .ensures) at (c .before .before .before .before .refusal .ensures)) (c .before .before .before .if1 .left) refl refl (c .before .before .sync .ensures)) _ refl refl (rw (c .before .peek .ensures, c .before .before .before .before .before .place .ensures, kept _ _ (c .before .before .sync .ensures) .config)) refl (c .done .ensures)
+returns-2 c = plainly _ _ _ _ (in-time _ _ _ _ (c .before .before .before .before .before .before .before .before .pre) (rw (c .before .before .before .before .before .place .ensures) at (c .before .before .before .before .refusal .ensures)) (c .before .before .before .if1 .left) refl refl (c .before .before .sync .ensures)) _ refl refl (rw (c .before .peek .ensures, c .before .before .before .before .before .place .ensures, kept _ _ (c .before .before .sync .ensures) .config)) refl (c .done .ensures)
 
 pub peek-spec : {M : Type 1} → statement M
 peek-spec = tie.close (tie.spec (λ c κs. search needs) refusal-requires (λ c κs. search needs) returns sync-requires (λ c κs. search needs) (λ c κs. search needs) returns-2)

@@ -11,7 +11,7 @@ refusal-requires c κs = c .before .pre
 
 returns : tie.Need-returns
 unfolding refusalOf asks
-returns c = turned-away (c .before .before .before .before .args .t) (call.Reduce (c .before .before .before .before .args .mask)) (c .before .before .before .before .args .cycle .0) (c .before .before .before .before .args .area .now) (c .before .before .before .before .pre) (c .before .before .refusal .ensures) (c .before .if1 .taken) (c .refused .ensures)
+returns c = turned-away _ _ _ _ (c .before .before .before .before .pre) (c .before .before .refusal .ensures) (c .before .if1 .taken) (c .refused .ensures)
 
 sync-requires : tie.Need-sync-requires
 unfolding refusalOf asks
@@ -19,11 +19,11 @@ sync-requires c κs = sync-asked (c .before .before .before .before .before .bef
 
 returns-2 : tie.Need-returns-2
 unfolding refusalOf asks works says
-returns-2 c = plainly (c .before .before .before .before .before .before .before .before .before .before .before .args .t) (call.Reduce (c .before .before .before .before .before .before .before .before .before .before .before .args .mask)) (c .before .before .before .before .before .before .before .before .before .before .before .args .cycle .0) (c .before .before .before .before .before .before .before .before .before .before .before .args .area .now) (in-time _ _ _ _ (c .before .before .before .before .before .before .before .before .before .before .before .pre) (c .before .before .before .before .before .before .before .before .before .refusal .ensures) (c .before .before .before .before .before .before .before .before .if1 .left) refl (c .before .before .before .if2 .taken) (c .before .before .sync .ensures)) (c .before .reduced .result) (reduces-to (kept _ _ (c .before .before .sync .ensures)) (c .before .before .before .before .before .before .before .before .before .before .before .args .cycle .0) (c .before .before .before .before .before .before .before .before .before .before .before .args .mask) (c .before .reduced .ensures)) refl refl refl (c .done .ensures)
+returns-2 c = plainly _ _ _ _ (in-time _ _ _ _ (c .before .before .before .before .before .before .before .before .before .before .before .pre) (c .before .before .before .before .before .before .before .before .before .refusal .ensures) (c .before .before .before .before .before .before .before .before .if1 .left) refl (c .before .before .before .if2 .taken) (c .before .before .sync .ensures)) (c .before .reduced .result) (reduces-to (kept _ _ (c .before .before .sync .ensures)) (c .before .before .before .before .before .before .before .before .before .before .before .args .cycle .0) (c .before .before .before .before .before .before .before .before .before .before .before .args .mask) (c .before .reduced .ensures)) refl refl refl (c .done .ensures)
 
 returns-3 : tie.Need-returns-3
 unfolding refusalOf asks works says
-returns-3 c = plainly (c .before .before .before .before .before .before .before .before .before .args .t) (call.Reduce (c .before .before .before .before .before .before .before .before .before .args .mask)) (c .before .before .before .before .before .before .before .before .before .args .cycle .0) (c .before .before .before .before .before .before .before .before .before .args .area .now) (at-once _ _ _ _ (c .before .before .before .before .before .before .before .before .before .pre) (c .before .before .before .before .before .before .before .refusal .ensures) (c .before .before .before .before .before .before .if1 .left) refl (c .before .if2 .left)) (c .before .before .before .before .before .before .before .before .before .args .t) (reduces-not _ (c .before .before .before .before .before .before .before .before .before .args .cycle .0) (c .before .before .before .before .before .before .before .before .before .args .mask) (c .before .if2 .left)) refl refl refl (c .done2 .ensures)
+returns-3 c = plainly _ _ _ _ (at-once _ _ _ _ (c .before .before .before .before .before .before .before .before .before .pre) (c .before .before .before .before .before .before .before .refusal .ensures) (c .before .before .before .before .before .before .if1 .left) refl (c .before .if2 .left)) (c .before .before .before .before .before .before .before .before .before .args .t) (reduces-not _ (c .before .before .before .before .before .before .before .before .before .args .cycle .0) (c .before .before .before .before .before .before .before .before .before .args .mask) (c .before .if2 .left)) refl refl refl (c .done2 .ensures)
 
 pub reduce-spec : {M : Type 1} → statement M
 reduce-spec = tie.close (tie.spec refusal-requires (λ c κs. search needs) returns sync-requires (λ c κs. search needs) (λ c κs. search needs) returns-2 (λ c κs. search needs) returns-3)

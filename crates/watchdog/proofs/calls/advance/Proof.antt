@@ -1,5 +1,4 @@
 use Rattle.watchdog.specs.Calls.{refusalOf}
-use Rattle.watchdog.specs.declared.calls.Call.the-variants as call
 use Rattle.watchdog.proofs.Outcomes.{turned-away, stopped, came}
 use Rattle.watchdog.proofs.Keeps.{on-time}
 use mathlib.Core.Path.{sym, _∙_}
@@ -9,7 +8,7 @@ use Rattle.watchdog.proofs.calls.advance.Tie as tie
 
 returns : tie.Need-returns
 unfolding refusalOf
-returns c = turned-away (c .before .before .before .before .args .w) call.Advance (c .before .before .before .before .args .cycle .0) (c .before .before .before .before .args .area .now) (c .before .before .before .before .pre) (c .before .before .refusal .ensures) (c .before .if1 .taken) (c .refused .ensures)
+returns c = turned-away _ _ _ _ (c .before .before .before .before .pre) (c .before .before .refusal .ensures) (c .before .if1 .taken) (c .refused .ensures)
 
 advance-requires : tie.Need-advance-requires
 advance-requires c κs = let h = on-time (c .before .before .before .before .args .w .latest .0) (c .before .before .before .before .args .cycle .0) (sym (c .before .before .refusal .ensures) ∙ c .before .if1 .left) in (c .before .before .before .before .pre, h .0, h .1)

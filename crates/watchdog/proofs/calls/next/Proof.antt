@@ -1,5 +1,4 @@
 use Rattle.watchdog.specs.Calls.{refusalOf, performed}
-use Rattle.watchdog.specs.declared.calls.Call.the-variants as call
 use Rattle.watchdog.proofs.Outcomes.{turned-away, plainly}
 use mathlib.Core.Path.{refl, sym, _∙_}
 use borrow.Author.Needs.{needs}
@@ -8,11 +7,11 @@ use Rattle.watchdog.proofs.calls.next.Tie as tie
 
 returns : tie.Need-returns
 unfolding refusalOf
-returns c = λ area. turned-away (c .before .before .before .args .w) call.Next (c .before .before .before .args .cycle .0) area (c .before .before .before .pre) (c .before .before .early .ensures) (c .before .if1 .taken) (c .refused .ensures)
+returns c = λ area. turned-away _ _ _ _ (c .before .before .before .pre) (c .before .before .early .ensures) (c .before .if1 .taken) (c .refused .ensures)
 
 returns-2 : tie.Need-returns-2
 unfolding refusalOf performed
-returns-2 c = λ area. plainly (c .before .before .before .before .args .w) call.Next (c .before .before .before .before .args .cycle .0) area (c .before .before .before .before .pre) (c .before .before .before .before .args .w) (sym (c .before .before .before .early .ensures) ∙ c .before .before .if1 .left) (rw (← c .before .next .ensures) refl) refl (c .done .ensures)
+returns-2 c = λ area. plainly _ _ _ _ (c .before .before .before .before .pre) (c .before .before .before .before .args .w) (sym (c .before .before .before .early .ensures) ∙ c .before .before .if1 .left) (rw (← c .before .next .ensures) refl) refl (c .done .ensures)
 
 pub next-spec : {M : Type 1} → statement M
 next-spec =

@@ -1,5 +1,4 @@
 use Rattle.watchdog.specs.Calls.{refusalOf, performed}
-use Rattle.watchdog.specs.declared.calls.Call.the-variants as call
 use Rattle.watchdog.proofs.Outcomes.{turned-away, plainly}
 use Rattle.watchdog.proofs.Keeps.{timely, synced-lasts}
 use mathlib.Core.Path.{refl, sym, _∙_}
@@ -10,7 +9,7 @@ use Rattle.watchdog.proofs.calls.read.Tie as tie
 
 returns : tie.Need-returns
 unfolding refusalOf
-returns c = λ area. turned-away (c .before .before .before .args .w) call.Read (c .before .before .before .args .cycle .0) area (c .before .before .before .pre) (c .before .before .early .ensures) (c .before .if1 .taken) (c .refused .ensures)
+returns c = λ area. turned-away _ _ _ _ (c .before .before .before .pre) (c .before .before .early .ensures) (c .before .if1 .taken) (c .refused .ensures)
 
 sync-requires : tie.Need-sync-requires
 sync-requires c κs = let t = timely (c .before .before .args .w) (c .before .before .args .cycle .0) (sym (c .before .early .ensures) ∙ c .if1 .left) in (c .before .before .pre, t .latest, t .most, t .before)
@@ -20,7 +19,7 @@ wdtcsr-requires c κs = let t = timely (c .before .before .before .before .args 
 
 returns-2 : tie.Need-returns-2
 unfolding refusalOf performed
-returns-2 c = λ area. plainly (c .before .before .before .before .before .before .args .w) call.Read (c .before .before .before .before .before .before .args .cycle .0) area (c .before .before .before .before .before .before .pre) (c .before .before .before .sync .result) (sym (c .before .before .before .before .before .early .ensures) ∙ c .before .before .before .before .if1 .left) (rw (c .before .wdtcsr .ensures, c .before .before .before .sync .ensures) refl) refl (c .done .ensures)
+returns-2 c = λ area. plainly _ _ _ _ (c .before .before .before .before .before .before .pre) (c .before .before .before .sync .result) (sym (c .before .before .before .before .before .early .ensures) ∙ c .before .before .before .before .if1 .left) (rw (c .before .wdtcsr .ensures, c .before .before .before .sync .ensures) refl) refl (c .done .ensures)
 
 pub read-spec : {M : Type 1} → statement M
 read-spec =

@@ -1,5 +1,4 @@
 use Rattle.watchdog.specs.Calls.{performed}
-use Rattle.watchdog.specs.declared.calls.Call.the-variants as call
 use Rattle.watchdog.proofs.Outcomes.{early-refused, long-refused, write-accepted, turned-away, plainly}
 use Rattle.watchdog.proofs.Keeps.{timely, synced-lasts}
 use mathlib.Core.Path.{refl, sym, _∙_}
@@ -12,10 +11,10 @@ too-long-requires : tie.Need-too-long-requires
 too-long-requires c κs = omega (arith, c .before .before .pre .since, c .before .before .pre .latest)
 
 returns : tie.Need-returns
-returns c = λ area. turned-away (c .before .before .before .before .before .before .args .w) (call.Write (c .before .before .before .before .before .before .args .value)) (c .before .before .before .before .before .before .args .cycle .0) area (c .before .before .before .before .before .before .pre) (early-refused _ _ _ (c .before .before .early .ensures) (c .before .if1 .taken)) (c .before .if1 .taken) (c .refused .ensures)
+returns c = λ area. turned-away _ _ _ _ (c .before .before .before .before .before .before .pre) (early-refused _ _ _ (c .before .before .early .ensures) (c .before .if1 .taken)) (c .before .if1 .taken) (c .refused .ensures)
 
 returns-2 : tie.Need-returns-2
-returns-2 c = λ area. turned-away (c .before .before .before .before .before .before .before .args .w) (call.Write (c .before .before .before .before .before .before .before .args .value)) (c .before .before .before .before .before .before .before .args .cycle .0) area (c .before .before .before .before .before .before .before .pre) (long-refused _ _ _ (c .before .before .before .early .ensures) (c .before .before .if1 .left) (c .before .before .before .before .too-long .ensures) (c .before .if2 .taken)) (λ z. omega arith) (c .refused2 .ensures)
+returns-2 c = λ area. turned-away _ _ _ _ (c .before .before .before .before .before .before .before .pre) (long-refused _ _ _ (c .before .before .before .early .ensures) (c .before .before .if1 .left) (c .before .before .before .before .too-long .ensures) (c .before .if2 .taken)) (λ z. omega arith) (c .refused2 .ensures)
 
 sync-requires : tie.Need-sync-requires
 sync-requires c κs = let t = timely (c .before .before .before .before .before .before .args .w) (c .before .before .before .before .before .before .args .cycle .0) (sym (c .before .before .early .ensures) ∙ c .before .if1 .left) in (c .before .before .before .before .before .before .pre, t .latest, t .most, t .before)
@@ -25,7 +24,7 @@ write-requires c κs = let t = timely (c .before .before .before .before .before
 
 returns-3 : tie.Need-returns-3
 unfolding performed
-returns-3 c = λ area. plainly (c .before .before .before .before .before .before .before .before .before .before .before .args .w) (call.Write (c .before .before .before .before .before .before .before .before .before .before .before .args .value)) (c .before .before .before .before .before .before .before .before .before .before .before .args .cycle .0) area (c .before .before .before .before .before .before .before .before .before .before .before .pre) (c .before .with .result) (write-accepted _ _ _ (c .before .before .before .before .before .before .before .early .ensures) (c .before .before .before .before .before .before .if1 .left) (c .before .before .before .before .before .before .before .before .too-long .ensures) (c .before .before .before .before .before .if2 .left)) (rw (c .before .with .ensures, c .before .before .write .ensures, c .before .before .before .before .sync .ensures) refl) refl (c .done .ensures)
+returns-3 c = λ area. plainly _ _ _ _ (c .before .before .before .before .before .before .before .before .before .before .before .pre) (c .before .with .result) (write-accepted _ _ _ (c .before .before .before .before .before .before .before .early .ensures) (c .before .before .before .before .before .before .if1 .left) (c .before .before .before .before .before .before .before .before .too-long .ensures) (c .before .before .before .before .before .if2 .left)) (rw (c .before .with .ensures, c .before .before .write .ensures, c .before .before .before .before .sync .ensures) refl) refl (c .done .ensures)
 
 pub write-spec : {M : Type 1} → statement M
 write-spec =
