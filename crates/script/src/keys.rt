@@ -1,5 +1,7 @@
 // A configuration's keys as a line gives them.
 
+use config::Config;
+use config::Wire;
 use words::EXTRA_WORD;
 use words::FINE;
 use words::MALFORMED;
@@ -99,7 +101,70 @@ fn value(key: usize, word: &[u8]) -> Read {
     }
 }
 
+// A byte, two bytes and a flag as a key's value.
+fn byte(x: u8) -> u64 {
+    x as u64
+}
+
+fn pair(x: u16) -> u64 {
+    x as u64
+}
+
+fn flag(x: bool) -> u64 {
+    if x { 1 } else { 0 }
+}
+
+// The value of a unit's key.
+fn unit(present: bool, value: u64) -> u64 {
+    if present { value } else { ABSENT }
+}
+
+// The value of a pin's key.
+fn pin(wire: Wire) -> u64 {
+    unit(wire.present, byte(wire.pin))
+}
+
 impl Keys {
+    // The keys that say a configuration; compare C's own key says only whether it is there.
+    pub fn saying(config: Config) -> Keys {
+        let a = config.a;
+        let b = config.b;
+        let c = config.c;
+        let icr = config.icr;
+        let values = [
+            byte(config.id),
+            flag(config.wide),
+            byte(config.layout),
+            pair(config.tccra),
+            pair(config.tccrb),
+            pair(config.foc),
+            byte(a.force),
+            byte(b.force),
+            pair(config.tcnt),
+            unit(a.present, pair(a.address)),
+            unit(b.present, pair(b.address)),
+            unit(icr.present, pair(icr.address)),
+            byte(config.tov),
+            byte(a.flag),
+            byte(b.flag),
+            byte(icr.flag),
+            pin(a.wire),
+            pin(b.wire),
+            unit(c.present, 0),
+            pin(icr.wire),
+            pin(config.t),
+            byte(config.clocks),
+            byte(config.group),
+            pair(config.prr),
+            byte(config.sleeprun),
+            pair(c.address),
+            byte(c.flag),
+            pin(c.wire),
+            byte(c.force),
+        ];
+        Keys { values, why: FINE }
+    }
+
     // Before any key.
     pub fn new() -> Keys {
         Keys {

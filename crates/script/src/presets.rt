@@ -2,6 +2,9 @@
 // keeps counting.
 
 use crate::keys::Keys;
+use m328p::timer0;
+use m328p::timer1;
+use m328p::timer2;
 use words::place;
 
 // The place of a preset's name in their list.
@@ -10,24 +13,6 @@ pub fn preset(word: &[u8]) -> usize {
         b"m328p.timer0 m328p.timer1 m328p.timer2 m2560.timer1 m2560.timer3 m2560.timer4 m2560.timer5 m8.timer0 m16.timer0 m16.timer1",
         word,
     )
-}
-
-// The keys of a timer of the ATmega328P, on the 28-pin DIP.
-fn m328p(preset: usize) -> Keys {
-    match preset {
-        0 => Keys::of(
-            b"id=0 wide=0 layout=split tccra=44 tccrb=45 foc=45 foca=80 focb=40 tcnt=46 ocra=47 ocrb=48 icr=- tov=1 ocfa=2 ocfb=4 icf=0 pina=12 pinb=11 c=- icp=- t=6 clock=sync group=1 prr=20 sleeprun=0",
-            0,
-        ),
-        1 => Keys::of(
-            b"id=1 wide=1 layout=split tccra=80 tccrb=81 foc=82 foca=80 focb=40 tcnt=84 ocra=88 ocrb=8A icr=86 tov=1 ocfa=2 ocfb=4 icf=20 pina=15 pinb=16 c=- icp=14 t=11 clock=sync group=1 prr=8 sleeprun=0",
-            0,
-        ),
-        _ => Keys::of(
-            b"id=2 wide=0 layout=split tccra=B0 tccrb=B1 foc=B1 foca=80 focb=40 tcnt=B2 ocra=B3 ocrb=B4 icr=- tov=1 ocfa=2 ocfb=4 icf=0 pina=17 pinb=5 c=- icp=- t=- clock=t2 group=2 prr=40 sleeprun=0",
-            0,
-        ),
-    }
 }
 
 // The keys of a timer of the ATmega2560, on the 100-pin TQFP.
@@ -73,7 +58,9 @@ fn older(preset: usize) -> Keys {
 // The keys of the preset at a place.
 pub fn keys(preset: usize) -> Keys {
     match preset {
-        0..=2 => m328p(preset),
+        0 => Keys::saying(timer0()),
+        1 => Keys::saying(timer1()),
+        2 => Keys::saying(timer2()),
         3..=6 => m2560(preset),
         _ => older(preset),
     }
