@@ -33,21 +33,21 @@ castOf gtccr value =
 
 -- ---- by address
 
+-- GTCCR's own aim, or a timer's call on TIFRn, TIMSKn or the register that stands there
+abbrev pub aimAt : Place → Aim → Call → Call → Call → Aim
+aimAt place.Gtccr gtccr tifr timsk register = gtccr
+aimAt (place.Tifr i) gtccr tifr timsk register = aim.Own i tifr
+aimAt (place.Timsk i) gtccr tifr timsk register = aim.Own i timsk
+aimAt (place.Register i) gtccr tifr timsk register = aim.Own i register
+aimAt place.Nowhere gtccr tifr timsk register = aim.Nowhere
+
 -- a read or a peek: of GTCCR it reaches no timer
 abbrev pub lookedAt : Place → Call → Aim
-lookedAt place.Gtccr c = aim.Shown
-lookedAt (place.Tifr i) c = aim.Own i call.Tifr
-lookedAt (place.Timsk i) c = aim.Own i call.Timsk
-lookedAt (place.Register i) c = aim.Own i c
-lookedAt place.Nowhere c = aim.Nowhere
+lookedAt x c = aimAt x aim.Shown call.Tifr call.Timsk c
 
 -- a write: of GTCCR it reaches all three
 abbrev pub writtenAt : Place → ℕ → ℕ → ℕ → Aim
-writtenAt place.Gtccr address value gtccr = aim.All (castOf gtccr value) (storedOf value)
-writtenAt (place.Tifr i) address value gtccr = aim.Own i (call.WriteTifr value)
-writtenAt (place.Timsk i) address value gtccr = aim.Own i (call.WriteTimsk value)
-writtenAt (place.Register i) address value gtccr = aim.Own i (call.Write address value)
-writtenAt place.Nowhere address value gtccr = aim.Nowhere
+writtenAt x address value gtccr = aimAt x (aim.All (castOf gtccr value) (storedOf value)) (call.WriteTifr value) (call.WriteTimsk value) (call.Write address value)
 
 -- ---- the orders, one a line
 

@@ -5,7 +5,7 @@ use m328p::Place;
 use m328p::placed;
 use timer::calls::Call;
 ghost use mathlib.Core.Path.{_≡_};
-ghost use Rattle.aims.specs.Aims.{storedOf, castOf, lookedAt, writtenAt, aimOf};
+ghost use Rattle.aims.specs.Aims.{storedOf, castOf, aimAt, lookedAt, writtenAt, aimOf};
 
 // A call on the board: of one timer by its id or by an address, or of all three.
 pub enum Order {
@@ -59,30 +59,37 @@ fn casting(gtccr: u8, value: u8) -> Cast
     Cast::Synchronise(level, mask)
 }
 
+// Yields what an order at a place aims at: GTCCR's own aim, or a timer's call on what stands there.
+fn at(place: Place, gtccr: Aim, tifr: Call, timsk: Call, register: Call) -> Aim
+    ensures { λ r. ⌜ r ≡ aimAt place gtccr tifr timsk register ⌝ }
+{
+    match place {
+        Place::Gtccr => gtccr,
+        Place::Tifr(id) => Aim::Own(id, tifr),
+        Place::Timsk(id) => Aim::Own(id, timsk),
+        Place::Register(id) => Aim::Own(id, register),
+        Place::Nowhere => Aim::Nowhere,
+    }
+}
+
 // Yields what a read or a peek aims at; a timer's own register is looked at by the call.
 fn looked(place: Place, call: Call) -> Aim
     ensures { λ r. ⌜ r ≡ lookedAt place call ⌝ }
 {
-    match place {
-        Place::Gtccr => Aim::Shown,
-        Place::Tifr(id) => Aim::Own(id, Call::Tifr),
-        Place::Timsk(id) => Aim::Own(id, Call::Timsk),
-        Place::Register(id) => Aim::Own(id, call),
-        Place::Nowhere => Aim::Nowhere,
-    }
+    at(place, Aim::Shown, Call::Tifr, Call::Timsk, call)
 }
 
 // Yields what a write aims at.
 fn written(place: Place, address: u16, value: u8, gtccr: u8) -> Aim
     ensures { λ r. ⌜ r ≡ writtenAt place address value gtccr ⌝ }
 {
-    match place {
-        Place::Gtccr => Aim::All(casting(gtccr, value), stored(value)),
-        Place::Tifr(id) => Aim::Own(id, Call::WriteTifr(value)),
-        Place::Timsk(id) => Aim::Own(id, Call::WriteTimsk(value)),
-        Place::Register(id) => Aim::Own(id, Call::Write(address, value)),
-        Place::Nowhere => Aim::Nowhere,
-    }
+    at(
+        place,
+        Aim::All(casting(gtccr, value), stored(value)),
+        Call::WriteTifr(value),
+        Call::WriteTimsk(value),
+        Call::Write(address, value),
+    )
 }
 
 // Yields what an order aims at, with GTCCR as it stands.

@@ -48,7 +48,7 @@ use Rattle.board.specs.declared.state.Board.{Board}
 use Rattle.board.specs.declared.outcome.Outcome.{Outcome}
 use Rattle.board.specs.State.{Valid, timerOf, boardTo, boardAll, freshBoard}
 use Rattle.board.specs.Calls.{Areas, areaOf, areasTo, Told, ownTold, prescaled, reached, lowest, allTold, aimed, told, Tells}
-use Rattle.board.specs.Claims.{Request, tells, outcomes, last, Alike, nextsOf, Scheduled, reachesAll, Four, Alone, Untouched, advances, Commuting, GtccrReads, heard, History, nothing, called, Heard, CodeIsRun}
+use Rattle.board.specs.Claims.{Request, tells, outcomes, last, Alike, nextsOf, Scheduled, reachesAll, Four, Alone, Untouched, advances, Agrees, Commuting, GtccrReads, heard, History, nothing, called, Heard, CodeIsRun}
 
 -- ---- each timer's calls keep it valid, and skipping and ticking are alike
 
@@ -404,6 +404,11 @@ module _ (p : Passage) (b : Board) (cycle : ℕ) (areas : Areas) where
       let f = own-alone b i areas (answered p (timerOf b i) call.Advance cycle (areaOf areas i)) in
       rw (f .timers j a, f .others j a)
 
+  -- the second advance answers as if it were the first
+  agrees : (i j : Id) → Apart j i → Agrees (told p b (order.Advance j) cycle areas) (advances p b i j cycle areas)
+  unfolding ownTold
+  agrees i j a = rw (first-is j, advances-are i j a) (record { number = refl; values = refl; written = refl })
+
   timer-is : (i j k : Id) → Apart j i
       → timerOf (advances p b i j cycle areas .board) k
       ≡ cond (eqb (moved j .number) 0 && eqb (keyOf k .owner) (keyOf j .owner)) (moved j .timer) (cond (eqb (moved i .number) 0 && eqb (keyOf k .owner) (keyOf i .owner)) (moved i .timer) (timerOf b k))
@@ -429,8 +434,11 @@ module _ (p : Passage) (b : Board) (cycle : ℕ) (areas : Areas) where
 
 pub commuting : Commuting
 commuting p b i j cycle areas a c =
+    let h = agrees p b cycle areas i j a in
     record {
+      first = agrees p b cycle areas j i c;
+      second = record { number = sym (h .number); values = sym (h .values); written = sym (h .written) };
       timers = λ k. timer-is p b cycle areas i j k a ∙ cond-swap _ _ _ _ _ (not-both p b cycle areas i j k a) ∙ sym (timer-is p b cycle areas j i k c);
-      areas = areas-are p b cycle areas i j a ∙ areas-swap areas i j _ _ a ∙ sym (areas-are p b cycle areas j i c);
+      bytes = areas-are p b cycle areas i j a ∙ areas-swap areas i j _ _ a ∙ sym (areas-are p b cycle areas j i c);
       gtccr = gtccr-is p b cycle areas i j a ∙ sym (gtccr-is p b cycle areas j i c);
     }

@@ -97,19 +97,27 @@ Untouched = (p : Passage) (b : Board) (q : Request) (i : Id) (c : Call) → aimO
 
 -- ---- two advances to one cycle
 
--- the same three timers and areas
-pub record Commutes (x y : Told) : Type 0 where
-  pub timers : (k : Id) → timerOf (x .board) k ≡ timerOf (y .board) k
-  pub areas : x .areas ≡ y .areas
-  pub gtccr : x .board .gtccr ≡ y .board .gtccr
-
 -- an advance of one timer, and then of another
 abbrev pub advances : Passage → Board → Id → Id → ℕ → Areas → Told
 advances p b i j cycle areas = told p (told p b (order.Advance i) cycle areas .board) (order.Advance j) cycle (told p b (order.Advance i) cycle areas .areas)
 
+-- the same answer
+pub record Agrees (x y : Told) : Type 0 where
+  pub number : x .number ≡ y .number
+  pub values : x .values ≡ y .values
+  pub written : x .written ≡ y .written
+
+-- each advance answers as it does in the other order, and in the end the three timers, the areas and GTCCR are the same
+pub record Commutes (p : Passage) (b : Board) (i j : Id) (cycle : ℕ) (areas : Areas) : Type 0 where
+  pub first : Agrees (told p b (order.Advance i) cycle areas) (advances p b j i cycle areas)
+  pub second : Agrees (advances p b i j cycle areas) (told p b (order.Advance j) cycle areas)
+  pub timers : (k : Id) → timerOf (advances p b i j cycle areas .board) k ≡ timerOf (advances p b j i cycle areas .board) k
+  pub bytes : advances p b i j cycle areas .areas ≡ advances p b j i cycle areas .areas
+  pub gtccr : advances p b i j cycle areas .board .gtccr ≡ advances p b j i cycle areas .board .gtccr
+
 -- Commuting: in either order; next events are those of the timers, so they are the same too, and by Scheduled the scheduler holds the same ones, in whatever order of ties
 abbrev pub Commuting : Type 0
-Commuting = (p : Passage) (b : Board) (i j : Id) (cycle : ℕ) (areas : Areas) → Apart j i → Apart i j → Commutes (advances p b i j cycle areas) (advances p b j i cycle areas)
+Commuting = (p : Passage) (b : Board) (i j : Id) (cycle : ℕ) (areas : Areas) → Apart j i → Apart i j → Commutes p b i j cycle areas
 
 -- ---- GTCCR
 

@@ -3,33 +3,7 @@ use Rattle.aims.proofs.written.Statement.{statement}
 use Rattle.aims.proofs.written.Tie as tie
 
 returns : tie.Need-returns
-returns c = rw (c .before .before .enum-told .given .1, c .before .casting .ensures, c .stored .ensures)
-
-returns-2 : tie.Need-returns-2
-returns-2 c = rw (c .before .place .given .1)
-
-returns-3 : tie.Need-returns-3
-returns-3 c = rw (c .before .place2 .given .1)
-
-returns-4 : tie.Need-returns-4
-returns-4 c = rw (c .before .place3 .given .1)
-
-returns-5 : tie.Need-returns-5
-returns-5 c = rw (c .enum-told2 .given .1)
+returns c = rw (c .before .before .casting .ensures, c .before .stored .ensures) at (c .at .ensures)
 
 pub written-spec : {M : Type 1} → statement M
-written-spec =
-    tie.close
-    (tie.spec
-    (λ c. search needs)
-    (λ c κs. search needs)
-    (λ c κs. search needs)
-    (λ c. search needs)
-    (λ c. search needs)
-    (λ c. search needs)
-    (λ c. search needs)
-    returns
-    returns-2
-    returns-3
-    returns-4
-    returns-5)
+written-spec = tie.close (tie.spec (λ c κs. search needs) (λ c κs. search needs) (λ c κs. search needs) returns)

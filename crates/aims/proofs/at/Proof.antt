@@ -1,6 +1,6 @@
 use borrow.Author.Needs.{needs}
-use Rattle.aims.proofs.looked.Statement.{statement}
-use Rattle.aims.proofs.looked.Tie as tie
+use Rattle.aims.proofs.at.Statement.{statement}
+use Rattle.aims.proofs.at.Tie as tie
 
 returns : tie.Need-returns
 returns c = rw (c .enum-told .given .1)
@@ -17,8 +17,8 @@ returns-4 c = rw (c .before .place3 .given .1)
 returns-5 : tie.Need-returns-5
 returns-5 c = rw (c .enum-told2 .given .1)
 
-pub looked-spec : {M : Type 1} → statement M
-looked-spec =
+pub at-spec : {M : Type 1} → statement M
+at-spec =
     tie.close
     (tie.spec
     (λ c. search needs)
