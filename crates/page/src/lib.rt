@@ -10,6 +10,11 @@ use words::UNKNOWN_COMMAND;
 use words::UNKNOWN_KEY;
 use words::UNKNOWN_NAME;
 ghost use Prim.Native.Nat.{_<_};
+ghost use mathlib.Core.Path.{_≡_};
+ghost use mathlib.Core.List.{_∷_, [], _++_};
+ghost use Rattle.io.specs.Digits.{glyph as Digits·glyph};
+ghost use Rattle.figures.specs.Figures.{decimal};
+ghost use Rattle.page.specs.Page.{Puts, pair, pattern, flag, reasonOf, unreadableOf};
 
 // The bytes of a page.
 pub const SIZE: usize = 8192;
@@ -17,7 +22,9 @@ pub const SIZE: usize = 8192;
 pub type Page = [u8; SIZE];
 
 // Puts a byte at a place of the page, or on the next page; yields the place after it.
-pub fn byte(page: &mut Page, at: usize, b: u8) -> usize {
+pub fn byte(page: &mut Page, at: usize, b: u8) -> usize
+    ensures { λ r. ⌜ Puts (now (page .entry)) at (now (page .exit)) r (b ∷ []) ⌝ }
+{
     if at < SIZE {
         page[at] = b;
         return at + 1;
@@ -28,7 +35,9 @@ pub fn byte(page: &mut Page, at: usize, b: u8) -> usize {
 }
 
 // Puts some bytes; yields the place after them.
-pub fn text(page: &mut Page, from: usize, bytes: &[u8]) -> usize {
+pub fn text(page: &mut Page, from: usize, bytes: &[u8]) -> usize
+    ensures { λ r. ⌜ Puts (now (page .entry)) from (now (page .exit)) r (now (bytes .entry)) ⌝ }
+{
     let mut at = from;
     let mut i = 0;
     while i < bytes.len() {
@@ -39,15 +48,19 @@ pub fn text(page: &mut Page, from: usize, bytes: &[u8]) -> usize {
 }
 
 // Puts a label and a number's decimal digits; yields the place after them.
-pub fn number(page: &mut Page, from: usize, label: &[u8], n: u64) -> usize {
+pub fn number(page: &mut Page, from: usize, label: &[u8], n: u64) -> usize
+    ensures { λ r. ⌜ Puts (now (page .entry)) from (now (page .exit)) r (now (label .entry) ++ decimal n) ⌝ }
+{
     let mut digits = [0u8; 20];
-    let k = io::decimal(n, &mut digits);
+    let k = figures::number(&mut digits, 0, n);
     let at = text(page, from, label);
     text(page, at, &digits[..k])
 }
 
 // Puts a label and a number's sixteen hexadecimal digits; yields the place after them.
-pub fn sixteen(page: &mut Page, from: usize, label: &[u8], n: u64) -> usize {
+pub fn sixteen(page: &mut Page, from: usize, label: &[u8], n: u64) -> usize
+    ensures { λ r. ⌜ Puts (now (page .entry)) from (now (page .exit)) r (now (label .entry) ++ pattern n) ⌝ }
+{
     let mut digits = [0u8; 16];
     let k = io::hex(n, 16, &mut digits);
     let at = text(page, from, label);
@@ -57,24 +70,31 @@ pub fn sixteen(page: &mut Page, from: usize, label: &[u8], n: u64) -> usize {
 // The hexadecimal digit of a number below sixteen.
 fn glyph(n: u8) -> u8
     requires { ⌜ n < 16 ⌝ }
+    ensures { λ r. ⌜ r ≡ Digits·glyph n ⌝ }
 {
     if n < 10 { 48 + n } else { 87 + n }
 }
 
 // Puts a byte's two hexadecimal digits; yields the place after them.
-pub fn two(page: &mut Page, from: usize, b: u8) -> usize {
+pub fn two(page: &mut Page, from: usize, b: u8) -> usize
+    ensures { λ r. ⌜ Puts (now (page .entry)) from (now (page .exit)) r (pair b) ⌝ }
+{
     let at = byte(page, from, glyph(b / 16));
     byte(page, at, glyph(b % 16))
 }
 
 // Puts a label and a register's two digits; yields the place after them.
-pub fn register(page: &mut Page, from: usize, label: &[u8], b: u8) -> usize {
+pub fn register(page: &mut Page, from: usize, label: &[u8], b: u8) -> usize
+    ensures { λ r. ⌜ Puts (now (page .entry)) from (now (page .exit)) r (now (label .entry) ++ pair b) ⌝ }
+{
     let at = text(page, from, label);
     two(page, at, b)
 }
 
 // Puts a label and a bit as 0 or 1; yields the place after them.
-pub fn bit(page: &mut Page, from: usize, label: &[u8], b: bool) -> usize {
+pub fn bit(page: &mut Page, from: usize, label: &[u8], b: bool) -> usize
+    ensures { λ r. ⌜ Puts (now (page .entry)) from (now (page .exit)) r (now (label .entry) ++ flag b) ⌝ }
+{
     let at = text(page, from, label);
     if b {
         byte(page, at, b'1')
@@ -84,7 +104,9 @@ pub fn bit(page: &mut Page, from: usize, label: &[u8], b: bool) -> usize {
 }
 
 // Puts why a line cannot be read.
-fn reason(page: &mut Page, at: usize, why: u8) -> usize {
+fn reason(page: &mut Page, at: usize, why: u8) -> usize
+    ensures { λ r. ⌜ Puts (now (page .entry)) at (now (page .exit)) r (reasonOf why) ⌝ }
+{
     match why {
         UNKNOWN_COMMAND => text(page, at, b": unknown command"),
         UNKNOWN_KEY => text(page, at, b": unknown key"),
@@ -99,7 +121,9 @@ fn reason(page: &mut Page, at: usize, why: u8) -> usize {
 }
 
 // Puts that the nth line cannot be read, and why; yields the place after that.
-pub fn unreadable(page: &mut Page, from: usize, nth: u64, why: u8) -> usize {
+pub fn unreadable(page: &mut Page, from: usize, nth: u64, why: u8) -> usize
+    ensures { λ r. ⌜ Puts (now (page .entry)) from (now (page .exit)) r (unreadableOf nth why) ⌝ }
+{
     let at = number(page, from, b"error line ", nth);
     reason(page, at, why)
 }

@@ -1,0 +1,24 @@
+-- `page::byte` meets its contract: a full page is handed over, and is then written from its start.
+use borrow.Author.Needs.{needs}
+use Rattle.page.proofs.Sheets.{put-here, put-next}
+use Rattle.page.proofs.byte.Statement.{statement}
+use Rattle.page.proofs.byte.Tie as tie
+
+returns : tie.Need-returns
+returns c = put-here (c .before .args .page .now) (c .before .args .at) (c .before .args .b) (c .if1 .taken)
+
+returns-2 : tie.Need-returns-2
+returns-2 c =
+    let a = c .before .before .before .before .args in
+    put-next (a .page .now) (a .at) (a .b) (c .before .before .before .if1 .left)
+
+pub byte-spec : {M : Type 1} → statement M
+byte-spec =
+    tie.close
+    (tie.spec
+    (λ c. search needs)
+    (λ c. search needs)
+    returns
+    (λ c κs. search needs)
+    (λ c. search needs)
+    returns-2)
