@@ -14,7 +14,7 @@ echo '#include <simavr/sim_avr.h>' | ${CC:-cc} -E - > /dev/null 2>&1 || lacks si
 [ "$library" != needs ] || exit 0
 
 mkdir -p $out
-${CC:-cc} -O2 -Wall -Wextra -Wno-unused-parameter -Werror -std=gnu11 -o $out/run $here/run.c $here/glue.c "$library" -lsimavr
+${CC:-cc} -O2 -Wall -Wextra -Wno-unused-parameter -Werror -std=gnu11 -o $out/run $here/run.c $here/glue.c $here/wires.c "$library" -lsimavr
 $avr -Os -o $out/asks.elf $here/asks.c
 $avr -Os -o $out/door.elf $here/door.c
 

@@ -1,7 +1,8 @@
 //! `speed`: the timer beside the Rust, one driver and one build for both. Nanoseconds by the clock; instructions by
 //! callgrind, as the difference of two runs: `speed run ROW SIDE STEPS`, `speed grow SELECT POWER STEPS` and
-//! `speed watch P TIMEOUTS STEPS`. `speed watchdog` measures the watchdog alone.
+//! `speed watch P TIMEOUTS STEPS`, `speed board ROW SIDE STEPS`. `speed watchdog` measures the watchdog alone, `speed board` the board.
 
+mod boards;
 mod callgrind;
 mod growth;
 mod sides;
@@ -19,6 +20,7 @@ fn main() {
             table::print();
             growth::print();
             watchdogs::print();
+            boards::print();
         }
         ["run", row, side, steps] => println!("{}", row_of(number(row) as usize, side, number(steps))),
         ["grow", select, power, steps] => {
@@ -28,6 +30,8 @@ fn main() {
             println!("{}", watchdogs::run(number(p) as u8, number(timeouts), number(steps)));
         }
         ["watchdog"] => watchdogs::print(),
+        ["board", row, side, steps] => println!("{}", boards::run(row, side, number(steps)).unwrap_or_else(|| usage())),
+        ["board"] => boards::print(),
         _ => usage(),
     }
 }
@@ -47,7 +51,7 @@ fn number(word: &str) -> u64 {
 
 fn usage() -> ! {
     eprintln!(
-        "usage: speed | speed run ROW {}|{} STEPS | speed grow SELECT POWER STEPS | speed watchdog",
+        "usage: speed | speed run ROW {}|{} STEPS | speed grow SELECT POWER STEPS | speed watchdog | speed board",
         Ours::NAME,
         Theirs::NAME
     );
