@@ -21,9 +21,8 @@ pub fn print() {
     println!("| step | a timer: instructions | the board | ratio |");
     println!("|---|---|---|---|");
     for (row, what) in ROWS {
-        let [timer, board] = ["timer", "board"].map(|side| {
-            callgrind::a_step(|steps| ["board".into(), row.into(), side.into(), steps.to_string()], STEPS)
-        });
+        let [timer, board] = ["timer", "board"]
+            .map(|side| callgrind::a_step(|steps| ["board".into(), row.into(), side.into(), steps.to_string()], STEPS));
         println!("| {what} | {timer:.0} | {board:.0} | {:.2} |", board / timer);
     }
 }

@@ -18,7 +18,11 @@ pub enum Order {
     Advance(Id),
     Next(Id),
     Reset(Id),
-    Edge { id: Id, pin: u8, level: u8 },
+    Edge {
+        id: Id,
+        pin: u8,
+        level: u8,
+    },
     Route(Id, u8),
     Output(Id, u8),
     Read(u16),
@@ -164,13 +168,7 @@ impl Board {
     }
 
     /// The byte at a data address is written; yields the bytes of each timer's records.
-    pub fn write(
-        &mut self,
-        address: u16,
-        value: u8,
-        cycle: u64,
-        areas: [&mut [u8]; 3],
-    ) -> Result<[usize; 3], Refusal> {
+    pub fn write(&mut self, address: u16, value: u8, cycle: u64, areas: [&mut [u8]; 3]) -> Result<[usize; 3], Refusal> {
         let BoardOutcome { answer, written } = self.call(Order::Write(address, value), cycle, areas);
         accepted(answer).map(|_| written)
     }

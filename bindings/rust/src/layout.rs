@@ -1,4 +1,4 @@
-//! That the library linked lays its types out as `raw` does: what it says of a timer's size and alignment, and a known
+//! That the library linked lays its types out as `raw` does: what it says of a timer's and a board's size and alignment, and a known
 //! reading, worked once by the library and read here field by field.
 
 use std::mem::{align_of, size_of};
@@ -94,7 +94,7 @@ fn reading() {
     assert_eq!(area[20..], [0xa5; 4], "the library wrote past its records");
 }
 
-/// Compares the library's board with this crate's, once: the reading of Timer1 on the board, TSM in GTCCR, and the scheduler while Timer0 counts.
+/// Compares the library's board with this crate's, once: its shape, and a reading of Timer2, the scheduler and GTCCR.
 ///
 /// # Panics
 /// Where they differ.

@@ -1,9 +1,9 @@
-//! The proved AVR bench timer, its watchdog, the door rules, the log and its dump, held and called from Rust.
+//! The proved AVR bench timer, the ATmega328P board of three such timers, the watchdog, the door rules, the log and its dump, held and called from Rust.
 //!
 //! The work is that of the static libraries of the crates `shell` and `doorlog`, every function of which is proved to meet its contract. This
 //! crate declares its types again, and is all that is not proved between that contract and a caller: it turns arguments
-//! into numbers and answers into enums, and checks once, when the first timer is made, that both sides lay the types out
-//! alike.
+//! into numbers and answers into enums, and checks once, when the first timer or board is made, that both sides lay the
+//! types out alike.
 //!
 //! ```
 //! use paddlemauve::{records, Advanced, Config, Next, Timer};

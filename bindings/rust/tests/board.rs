@@ -12,8 +12,9 @@ const IDS: [Id; 3] = [Id::Timer0, Id::Timer1, Id::Timer2];
 
 /// Addresses that are a timer's, GTCCR's, and nobody's.
 const ADDRESSES: [u16; 40] = [
-    0x35, 0x36, 0x37, 0x43, 0x43, 0x43, 0x44, 0x45, 0x45, 0x45, 0x46, 0x47, 0x48, 0x6e, 0x6f, 0x70, 0x80, 0x81, 0x81, 0x82,
-    0x84, 0x85, 0x86, 0x87, 0x88, 0x89, 0x8a, 0x8b, 0xb0, 0xb1, 0xb1, 0xb2, 0xb3, 0xb4, 0x00, 0x34, 0x49, 0x83, 0xb5, 0x1ff,
+    0x35, 0x36, 0x37, 0x43, 0x43, 0x43, 0x44, 0x45, 0x45, 0x45, 0x46, 0x47, 0x48, 0x6e, 0x6f, 0x70, 0x80, 0x81, 0x81,
+    0x82, 0x84, 0x85, 0x86, 0x87, 0x88, 0x89, 0x8a, 0x8b, 0xb0, 0xb1, 0xb1, 0xb2, 0xb3, 0xb4, 0x00, 0x34, 0x49, 0x83,
+    0xb5, 0x1ff,
 ];
 
 /// Three timers held apart, and GTCCR.
@@ -146,35 +147,37 @@ impl Random {
         all[self.below(all.len() as u64) as usize]
     }
 
-    fn byte(&mut self) -> u8 {
-        self.below(256) as u8
-    }
-
     fn order(&mut self) -> Order {
         let id = self.of(&IDS);
-        let level = (self.below(32) % 3 % 3 % 2 + self.below(64) / 63) as u8;
-        match self.below(40) {
-            0..=9 => Order::Advance(id),
-            10 => Order::Next(id),
-            11 => self.rarely(Order::Reset(id)),
-            12 | 13 => Order::Edge { id, pin: self.of(&[6, 11, 14, 15]), level },
-            14 => Order::Route(id, level),
-            15 => Order::Output(id, level),
-            16..=21 => Order::Read(self.of(&ADDRESSES)),
-            22..=25 => Order::Peek(self.of(&ADDRESSES)),
-            26..=35 => Order::Write(self.of(&ADDRESSES), self.byte()),
-            36 => self.rarely(Order::Sleep(self.0 as u8 % 9)),
-            37 | 38 => Order::Wake,
-            _ => Order::Reduce(self.0 as u8 & 0x68 & self.0.to_be_bytes()[3]),
+        let level = self.of(&[0, 1, 0, 1, 0, 1, 0, 2]);
+        let address = self.of(&ADDRESSES);
+        let byte = self.below(256) as u8;
+        match self.below(160) {
+            0..=54 => Order::Advance(id),
+            55..=58 => Order::Next(id),
+            59 => Order::Reset(id),
+            60..=67 => Order::Edge { id, pin: self.of(&[6, 11, 14, 15]), level },
+            68..=71 => Order::Route(id, level),
+            72..=75 => Order::Output(id, level),
+            76..=99 => Order::Read(address),
+            100..=115 => Order::Peek(address),
+            116..=149 => Order::Write(address, byte),
+            150 => Order::Sleep(byte % 9),
+            151..=156 => Order::Wake,
+            _ => Order::Reduce(byte & self.of(&[0, 0, 8, 0x20, 0x40, 0x68])),
         }
     }
 
-    /// Once in four; else an advance, so that events are worked.
-    fn rarely(&mut self, order: Order) -> Order {
-        if self.below(4) == 0 {
-            return order;
+    /// A cycle behind the last one: mostly the same or a little on, seldom before it or past 2^62 − 1.
+    fn cycle(&mut self, last: u64) -> u64 {
+        match self.below(64) {
+            0 => last.saturating_sub(self.below(3)),
+            1 if self.below(100) == 0 => 1 << 62,
+            1..=20 => last,
+            21..=50 => last + self.below(40),
+            51..=62 => last + self.below(3_000),
+            _ => last + self.below(200_000),
         }
-        Order::Advance(self.of(&IDS))
     }
 }
 
@@ -185,11 +188,36 @@ fn announced(timer: &Timer) -> Option<Option<Next>> {
 
 #[derive(Debug, Default)]
 struct Figures {
+    /// By the refusal's number.
     refused: [u64; 18],
     paused: u64,
     records: usize,
-    nexts: u64,
+    /// Timers whose event is past, where their own `next` is refused and so cannot be compared.
     past: u64,
+}
+
+impl Figures {
+    fn note(&mut self, outcome: BoardOutcome) {
+        self.records += outcome.written.iter().sum::<usize>() / 10;
+        match outcome.answer {
+            Answer::Refused(why) => self.refused[why.number() as usize] += 1,
+            Answer::Paused(..) => self.paused += 1,
+            _ => (),
+        }
+    }
+}
+
+/// An order on both, each with areas of its own.
+fn same(board: &mut Board, three: &mut Three, order: Order, cycle: u64, size: usize) -> BoardOutcome {
+    let mut mine: [Vec<u8>; 3] = std::array::from_fn(|_| vec![FILL; size]);
+    let mut theirs = mine.clone();
+    let [zero, one, two] = &mut mine;
+    let outcome = board.call(order, cycle, [zero, one, two]);
+    assert_eq!(outcome, three.call(order, cycle, &mut theirs), "{order:?} at {cycle}");
+    assert_eq!(mine, theirs, "{order:?} at {cycle}");
+    assert_eq!(IDS.map(|id| board.timer(id)), three.timers, "{order:?} at {cycle}");
+    assert_eq!(board.gtccr(), three.gtccr, "{order:?} at {cycle}");
+    outcome
 }
 
 /// Orders on a fresh board and on three fresh timers.
@@ -197,26 +225,12 @@ fn compare(seed: u64, orders: u64, figures: &mut Figures) {
     let mut random = Random(seed);
     let mut board = Board::new();
     let mut three = Three::new();
-    let mut cycle = 0u64;
+    let mut last = 0;
     for _ in 0..orders {
-        cycle = match random.below(64) {
-            0 => cycle.saturating_sub(random.below(3)),
-            1 if random.below(2000) == 0 => 1 << 62,
-            1..=20 => cycle,
-            21..=50 => cycle + random.below(40),
-            51..=62 => cycle + random.below(3000),
-            _ => cycle + random.below(200_000),
-        };
+        let cycle = random.cycle(last);
         let order = random.order();
         let size = random.of(&[0, 9, 10, 20, 30, 110, 110, 110, 110, 200]);
-        let mut mine: [Vec<u8>; 3] = std::array::from_fn(|_| vec![FILL; size]);
-        let mut theirs = mine.clone();
-        let [zero, one, two] = &mut mine;
-        let outcome = board.call(order, cycle, [zero, one, two]);
-        assert_eq!(outcome, three.call(order, cycle, &mut theirs), "seed {seed}: {order:?} at {cycle}");
-        assert_eq!(mine, theirs, "seed {seed}: {order:?} at {cycle}");
-        assert_eq!(IDS.map(|id| board.timer(id)), three.timers, "seed {seed}: {order:?} at {cycle}");
-        assert_eq!(board.gtccr(), three.gtccr, "seed {seed}: {order:?} at {cycle}");
+        let outcome = same(&mut board, &mut three, order, cycle, size);
         for (next, timer) in board.nexts().iter().zip(&three.timers) {
             match announced(timer) {
                 Some(theirs) => assert_eq!(*next, theirs, "seed {seed}: {order:?} at {cycle}"),
@@ -224,15 +238,9 @@ fn compare(seed: u64, orders: u64, figures: &mut Figures) {
             }
         }
         assert_eq!(board.earliest(), board.nexts().iter().flatten().map(|n| n.cycle).min());
-        figures.nexts += board.nexts().iter().flatten().count() as u64;
-        figures.records += outcome.written.iter().sum::<usize>() / 10;
-        match outcome.answer {
-            Answer::Refused(why) => figures.refused[why.number() as usize] += 1,
-            Answer::Paused(..) => figures.paused += 1,
-            _ => (),
-        }
-        if cycle == 1 << 62 {
-            cycle = three.timers.iter().map(|t| t.state().latest).max().expect("three timers");
+        figures.note(outcome);
+        if cycle < 1 << 62 {
+            last = cycle;
         }
     }
 }

@@ -1,6 +1,6 @@
 //! The examples of the table of refusals: each changes neither the timer nor the area.
 
-use paddlemauve::{Advanced, Answer, Call, Capture, Config, Outcome, Refusal, Timer};
+use paddlemauve::{Advanced, Answer, Board, Call, Capture, Config, Outcome, Refusal, Timer};
 
 fn timer0() -> Timer {
     Timer::new(&Config::M328P_TIMER0).expect("the preset is accepted")
@@ -29,6 +29,7 @@ fn numbers() {
         Refusal::Record,
         Refusal::RecordOrder,
         Refusal::RecordTooLate,
+        Refusal::Nowhere,
         Refusal::Period,
         Refusal::TooFarApart,
         Refusal::LogFull,
@@ -36,7 +37,7 @@ fn numbers() {
         Refusal::LogArea,
         Refusal::Rule,
     ];
-    assert_eq!(all.map(Refusal::number), [1, 2, 3, 4, 5, 6, 7, 8, 13, 14, 15, 17, 18, 19, 20, 21, 22]);
+    assert_eq!(all.map(Refusal::number), [1, 2, 3, 4, 5, 6, 7, 8, 13, 14, 15, 16, 17, 18, 19, 20, 21, 22]);
     assert_eq!(Refusal::EventDue.to_string(), "refused 6: advance to the cycle first");
 }
 
@@ -101,4 +102,26 @@ fn an_advance_stops_where_the_area_is_full_and_goes_on() {
     assert_eq!(timer.advance(300, &mut [0; 49]), Ok(Advanced::Paused { sync: 256, written: 20, flags: 0x06 }));
     assert_eq!(timer.advance(300, &mut [0; 49]), Ok(Advanced::Done { written: 30, flags: 0x01 }));
     assert_eq!(timer.state().latest, 300);
+}
+
+#[test]
+fn an_address_is_the_boards_before_the_cycle_counts() {
+    let mut board = Board::new();
+    let before = board.clone();
+    assert_eq!(board.read(0x83, 1 << 62), Err(Refusal::Nowhere));
+    assert_eq!(board.read(0x46, 1 << 62), Err(Refusal::CycleTooLarge));
+    assert_eq!(board, before);
+}
+
+#[test]
+fn one_timer_that_refuses_keeps_all_three_awake() {
+    let mut board = Board::new();
+    assert_eq!(board.write(0xb1, 1, 0, Default::default()), Ok([0; 3]));
+    let before = board.clone();
+    assert_eq!(board.sleep(2, 1), Err(Refusal::EventDue));
+    assert_eq!(board, before);
+    assert_eq!(board.sleep(8, 0), Err(Refusal::Level));
+    assert_eq!(board, before);
+    assert_eq!(board.sleep(2, 0), Ok(()));
+    assert_eq!(board.nexts(), [None; 3]);
 }
