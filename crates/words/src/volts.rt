@@ -7,7 +7,9 @@ use crate::TOO_LARGE;
 use crate::digit;
 use crate::find;
 use crate::unread;
+ghost use mathlib.Core.Path.{_≡_};
 ghost use Prim.Native.Nat.{_<_, _^_};
+ghost use lib.Ieee.{toBits, binary64};
 
 // Below this, one more digit leaves a number below 10^15.
 const ROOM: u64 = 100_000_000_000_000;
@@ -143,7 +145,9 @@ pub fn volts_of(word: &[u8]) -> Volts {
 }
 
 // The bits of an f64, in which minus zero and the last place show; of a NaN always the same.
-pub fn pattern(v: f64) -> u64 {
+pub fn pattern(v: f64) -> u64
+    ensures { λ r. ⌜ r ≡ toBits binary64 v ⌝ }
+{
     if v == v {
         f64::to_bits(v)
     } else {
