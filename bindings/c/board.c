@@ -30,10 +30,10 @@ static void in_step(void)
     assert(writes(PM_M328P_GTCCR, 0x83, 0).number == 0);
     assert(writes(0x45, 1, 3).number == 0 && writes(0x81, 1, 20).number == 0);
     r = writes(0xb1, 1, 50);
-    for (i = 0; i < 3; i++) assert(r.timers[i].what == PM_NO_EVENT);
+    for (i = 0; i < 3; i++) assert(r.timers[i].next == PM_NEVER);
     assert(order(PM_BOARD_READ, 0, PM_M328P_GTCCR, 0, 0).value == 0x83);
     r = writes(PM_M328P_GTCCR, 0, 100);
-    for (i = 0; i < 3; i++) assert(r.timers[i].what == PM_EVENT_AT && r.timers[i].value == next[i] && r.timers[i].flags == flags[i]);
+    for (i = 0; i < 3; i++) assert(r.timers[i].next == next[i] && r.timers[i].flags == flags[i]);
     assert(board.scheduler.count == 3 && board.scheduler.next == 356);
     assert(order(PM_BOARD_PEEK, 0, 0x46, 0, 150).value == 50 && order(PM_BOARD_PEEK, 0, 0x84, 0, 150).value == 50 && order(PM_BOARD_PEEK, 0, 0xb2, 0, 150).value == 50);
 }
@@ -45,7 +45,7 @@ static void one_timer(void)
     struct pm_record record = pm_read_record(bytes[0]);
     assert(r.number == 0 && r.what == PM_REACHED && r.timers[0].written == 4 * PM_RECORD && r.timers[1].written == 0 && r.timers[2].written == 0);
     assert(record.kind == PM_FLAGS && record.cycle == 356 && record.flags == 7);
-    assert(r.timers[0].value == 612 && r.timers[2].value == 356);
+    assert(r.timers[0].next == 612 && r.timers[2].next == 356);
     assert(board.timers[0].counter.count == 0 && board.timers[2].counter.count != 0);
 }
 

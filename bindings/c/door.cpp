@@ -19,7 +19,7 @@ public:
         return reply;
     }
 
-    pm_shifted shift(uint64_t first, uint64_t second) const { return paddlemauve_shift(begun.timer, first, second); }
+    pm_shifted shift(uint64_t first, uint64_t second) const { return paddlemauve_shift(begun.timer.state, first, second); }
 
     std::vector<pm_record> records;
 

@@ -24,8 +24,8 @@ struct pm_config {
     uint8_t tov; struct pm_wire t; uint8_t clocks, group; uint16_t prr; uint8_t sleeprun;
 };
 
-/* A timer. It comes from paddlemauve_start and is changed by paddlemauve_call alone. */
-struct pm_timer {
+/* A timer's state. */
+struct pm_state {
     struct pm_config config;
     struct { uint32_t count; int32_t direction; bool blocked; uint64_t odometer; } counter; /* odometer: counts made since the reset */
     uint32_t ocr[3], buffer[3];
@@ -36,6 +36,10 @@ struct pm_timer {
     struct { uint64_t sync, origin, latest; } clock;
     struct { bool asleep; uint64_t since; bool reduced, tsm, routed; } halts;
 };
+
+/* A timer as its owner holds it: its state, and what the library keeps of it and alone reads. It comes from paddlemauve_start and is changed by the
+ * calls alone; paddlemauve_hold makes one of a state that a function by value has left. */
+struct pm_timer { struct pm_state state; uint64_t kept[2]; };
 
 /* Why a call was turned away. Neither the timer nor a byte of the area has changed then. */
 enum pm_refusal {
@@ -74,9 +78,11 @@ struct pm_asked { uint8_t kind, pin, value; uint16_t address; uint64_t cycle; };
 
 enum pm_what { PM_NOTHING, PM_BYTE, PM_EVENT_AT, PM_NO_EVENT, PM_PAUSED_AT, PM_REFUSED, PM_REACHED };
 
-/* number: 0, or an enum pm_refusal; what: an enum pm_what, with its value; flags: the TIFR bits that the next event's tick will raise, of
- * PM_EVENT_AT, PM_PAUSED_AT and PM_REACHED, 0 where there is no next event. */
-struct pm_reply { uint8_t number, what, flags; uint64_t value, written; };
+/* number: 0, or an enum pm_refusal; what: an enum pm_what, with its value. An accepted call tells the next event of the timer as it left it: next, its
+ * cycle, PM_NEVER where the counter does not run, and flags, the TIFR bits that its tick will raise, 0 for none. Beside a refusal both are 0. */
+struct pm_reply { uint8_t number, what, flags; uint64_t value, written, next; };
+
+#define PM_NEVER UINT64_MAX
 
 /* ticks: to the next event's, from the timer's last; flags: the TIFR bits that its tick will raise; looked: the compares looked at to know it. */
 struct pm_distance { uint32_t ticks; uint8_t flags, looked; };
@@ -95,10 +101,20 @@ struct pm_ended { struct pm_timer timer; uint64_t done; struct pm_reply reply; }
 
 struct pm_shape paddlemauve_shape(void);
 struct pm_begun paddlemauve_start(struct pm_config config);
-struct pm_distance paddlemauve_distance(struct pm_timer timer);
-struct pm_shifted paddlemauve_shift(struct pm_timer timer, uint64_t first, uint64_t second);
+struct pm_timer paddlemauve_hold(struct pm_state state);
+struct pm_distance paddlemauve_distance(struct pm_state state);
+struct pm_shifted paddlemauve_shift(struct pm_state state, uint64_t first, uint64_t second);
 struct pm_reply paddlemauve_call(struct pm_timer *timer, struct pm_asked asked, struct pm_area area);
-struct pm_ended paddlemauve_writes(struct pm_timer timer, struct pm_list list, struct pm_area area);
+struct pm_ended paddlemauve_writes(struct pm_state state, struct pm_list list, struct pm_area area);
+
+/* The calls of a busy bench, each as paddlemauve_call does it: PM_ADVANCE, PM_NEXT, PM_TIFR, PM_WRITE_TIFR, and PM_READ of TCNTn, low and high byte; of a narrow
+ * timer the high byte is PM_NO_REGISTER. */
+struct pm_reply paddlemauve_advance(struct pm_timer *timer, uint64_t cycle, struct pm_area area);
+struct pm_reply paddlemauve_next(struct pm_timer *timer, uint64_t cycle);
+struct pm_reply paddlemauve_tifr(struct pm_timer *timer, uint64_t cycle);
+struct pm_reply paddlemauve_clear(struct pm_timer *timer, uint8_t ones, uint64_t cycle);
+struct pm_reply paddlemauve_count_low(struct pm_timer *timer, uint64_t cycle);
+struct pm_reply paddlemauve_count_high(struct pm_timer *timer, uint64_t cycle);
 
 /* The bytes of a write in a list. */
 enum { PM_WRITE_BYTES = 10 };
@@ -139,7 +155,7 @@ struct pm_watched paddlemauve_watchdog_write(struct pm_watchdog w, uint8_t value
 /* The ATmega328P board: Timer0, Timer1 and Timer2, the scheduler of their next events, and GTCCR. It comes from paddlemauve_board and is changed by
  * paddlemauve_board_call alone. */
 struct pm_board {
-    struct pm_timer timers[3];
+    struct pm_state timers[3];
     struct {
         struct { struct { uint8_t owner, tag; } key; uint64_t cycle; } places[64];
         size_t count;
@@ -157,8 +173,11 @@ enum pm_order {
  * order has such an argument. */
 struct pm_ordered { uint8_t kind, id, pin, value; uint16_t address; uint64_t cycle; };
 
-/* number to value: as in struct pm_reply. timers: what each timer then answers to PM_NEXT, PM_EVENT_AT or PM_NO_EVENT, with the bytes written in its area. */
-struct pm_replied { uint8_t number, what, flags; uint64_t value; struct pm_reply timers[3]; };
+/* Of a timer of the board, as in struct pm_reply: the bytes written in its area, and its next event. */
+struct pm_standing { uint8_t flags; uint64_t written, next; };
+
+/* number, what and value: as in struct pm_reply; flags: of an answer that has some. */
+struct pm_replied { uint8_t number, what, flags; uint64_t value; struct pm_standing timers[3]; };
 
 struct pm_board paddlemauve_board(void);
 struct pm_shape paddlemauve_board_shape(void);

@@ -23,7 +23,7 @@ int main(void) {
     struct pm_reply next = paddlemauve_call(&begun.timer, (struct pm_asked){.kind = PM_NEXT, .cycle = 0}, area);
     assert(next.number == 0 && next.what == PM_EVENT_AT && next.value == 1 && next.flags == 6);
 
-    struct pm_distance distance = paddlemauve_distance(begun.timer);
+    struct pm_distance distance = paddlemauve_distance(begun.timer.state);
     assert(distance.ticks == 1 && distance.flags == 6 && distance.looked == 1);
 
     struct pm_reply done = paddlemauve_call(&begun.timer, (struct pm_asked){.kind = PM_ADVANCE, .cycle = 1}, area);
@@ -35,7 +35,21 @@ int main(void) {
 
     struct pm_timer was = begun.timer;
     assert(paddlemauve_call(&begun.timer, (struct pm_asked){.kind = 18, .cycle = 1}, area).number == PM_NO_CALL);
-    assert(begun.timer.counter.count == 1 && begun.timer.counter.odometer == 1 && begun.timer.flags.tifr == 6 && was.clock.latest == begun.timer.clock.latest);
+    assert(begun.timer.state.counter.count == 1 && begun.timer.state.counter.odometer == 1 && begun.timer.state.flags.tifr == 6 && was.state.clock.latest == begun.timer.state.clock.latest);
+
+    /* The calls of a busy bench, on the same timer: every reply tells the next event. */
+    next = paddlemauve_next(&begun.timer, 1);
+    assert(next.what == PM_EVENT_AT && next.value == 256 && next.next == 256 && next.flags == 1);
+    done = paddlemauve_count_low(&begun.timer, 3);
+    assert(done.what == PM_BYTE && done.value == 3 && done.next == 256 && done.flags == 1);
+    assert(paddlemauve_count_high(&begun.timer, 3).number == PM_NO_REGISTER);
+    assert(paddlemauve_tifr(&begun.timer, 3).value == 6);
+    assert(paddlemauve_clear(&begun.timer, 2, 3).number == 0 && begun.timer.state.flags.tifr == 4);
+    done = paddlemauve_advance(&begun.timer, 256, area);
+    assert(done.what == PM_REACHED && done.written == 2 * PM_RECORD && done.next == 257 && done.flags == 6);
+    assert(paddlemauve_next(&begun.timer, 257).number == PM_EVENT_DUE);
+    struct pm_timer again = paddlemauve_hold(begun.timer.state);
+    assert(paddlemauve_tifr(&again, 256).next == 257);
 
     struct pm_watched w = paddlemauve_watchdog_write(paddlemauve_watchdog(), 0x08, 0);
     assert(w.report.number == 0 && w.watchdog.moving.control.wde);
@@ -50,11 +64,11 @@ int main(void) {
     pm_pack_write(list + PM_WRITE_BYTES, 0x47, 124, 0);
     pm_pack_write(list + 2 * PM_WRITE_BYTES, 0x48, 200, 0);
     pm_pack_write(list + 3 * PM_WRITE_BYTES, 0x45, 0x03, 0);
-    struct pm_ended ended = paddlemauve_writes(paddlemauve_start(pm_m328p[0].config).timer, (struct pm_list){list, sizeof list}, area);
+    struct pm_ended ended = paddlemauve_writes(paddlemauve_start(pm_m328p[0].config).timer.state, (struct pm_list){list, sizeof list}, area);
     assert(ended.done == 4 && ended.reply.number == 0 && ended.reply.what == PM_NOTHING && ended.reply.written == 0);
     next = paddlemauve_call(&ended.timer, (struct pm_asked){.kind = PM_NEXT, .cycle = 0}, area);
     assert(next.what == PM_EVENT_AT && next.value == 8000);
-    ended = paddlemauve_writes(ended.timer, (struct pm_list){list, sizeof list - 1}, area);
+    ended = paddlemauve_writes(ended.timer.state, (struct pm_list){list, sizeof list - 1}, area);
     assert(ended.done == 0 && ended.reply.number == PM_LIST_LENGTH);
 
     puts("T1 and T2 from C");

@@ -145,7 +145,7 @@ impl Timer {
         self.latest = self.latest.max(cycle);
         let mut area = [0; 8 * EVENT];
         loop {
-            let Outcome { answer, written } = self.timer.call(call, self.latest, &mut area);
+            let Outcome { answer, written, .. } = self.timer.call(call, self.latest, &mut area);
             self.tell(&area[..written], cx);
             match answer {
                 Answer::Paused(..) => (),

@@ -13,7 +13,7 @@ enum { ASSR = 0xb6 };
 
 static avr_t *cpu;
 static struct pm_board board;
-static uint64_t nexts[3] = {UINT64_MAX, UINT64_MAX, UINT64_MAX};        /* the next events' cycles; simavr's cycle timers stand there */
+static uint64_t nexts[3] = {PM_NEVER, PM_NEVER, PM_NEVER};        /* the next events' cycles; simavr's cycle timers stand there */
 static avr_int_vector_t *vectors[64];                                   /* by number */
 static void (*sleep_before)(avr_t *, avr_cycle_count_t);
 static bool asleep;
@@ -42,12 +42,11 @@ static void take(int i, const uint8_t *bytes)
 static avr_cycle_count_t event(avr_t *avr, avr_cycle_count_t when, void *param);
 
 /* simavr's cycle timer goes to a timer's next event. */
-static void plan(int i, struct pm_reply r)
+static void plan(int i, uint64_t next)
 {
-	uint64_t next = r.what == PM_EVENT_AT ? r.value : UINT64_MAX;
 	if (next == nexts[i]) return;
 	nexts[i] = next;
-	if (next == UINT64_MAX) avr_cycle_timer_cancel(cpu, event, nexts + i);
+	if (next == PM_NEVER) avr_cycle_timer_cancel(cpu, event, nexts + i);
 	else if (next > cpu->cycle) avr_cycle_timer_register(cpu, next - cpu->cycle, event, nexts + i);
 }
 
@@ -63,7 +62,7 @@ static uint8_t order(struct pm_ordered o)
 		fprintf(stderr, "paddlemauve: order %d refused at cycle %llu with %d\n", o.kind, (unsigned long long)o.cycle, r.number);
 		abort();
 	}
-	EACH(i) plan(i, r.timers[i]);
+	EACH(i) plan(i, r.timers[i].next);
 	EACH(i) for (uint64_t at = 0; at < r.timers[i].written; at += PM_RECORD) take(i, bytes[i] + at);
 	return r.value;
 }

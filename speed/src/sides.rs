@@ -22,6 +22,9 @@ pub trait Side {
     fn advance(&mut self, cycle: u64) -> usize;
     fn next(&mut self, cycle: u64) -> u64;
     fn read(&mut self, address: u16, cycle: u64) -> u8;
+    fn write_at(&mut self, address: u16, value: u8, cycle: u64);
+    fn tifr(&mut self, cycle: u64) -> u8;
+    fn clear(&mut self, ones: u8, cycle: u64);
     fn area(&self) -> &[u8; AREA];
 }
 
@@ -64,6 +67,18 @@ impl Side for Ours {
         self.timer.read(address, cycle).expect("no event is due")
     }
 
+    #[inline]
+    fn write_at(&mut self, address: u16, value: u8, cycle: u64) {
+        self.timer.write(address, value, cycle, &mut self.area).expect("a write");
+    }
+    #[inline]
+    fn tifr(&mut self, cycle: u64) -> u8 {
+        self.timer.tifr(cycle).expect("tifr")
+    }
+    #[inline]
+    fn clear(&mut self, ones: u8, cycle: u64) {
+        self.timer.write_tifr(ones, cycle).expect("tifr")
+    }
     fn area(&self) -> &[u8; AREA] {
         &self.area
     }
@@ -117,6 +132,18 @@ impl Side for Theirs {
         self.with(cycle, |timer, cx| timer.read(address, cx))
     }
 
+    #[inline]
+    fn write_at(&mut self, address: u16, value: u8, cycle: u64) {
+        self.with(cycle, |timer, cx| timer.write(address, value, cx));
+    }
+    #[inline]
+    fn tifr(&mut self, _cycle: u64) -> u8 {
+        self.cpu.data[0]
+    }
+    #[inline]
+    fn clear(&mut self, ones: u8, _cycle: u64) {
+        self.cpu.data[0] &= !ones;
+    }
     fn area(&self) -> &[u8; AREA] {
         &self.sys.area
     }

@@ -23,13 +23,17 @@ pub enum Step {
     Poll,
     /// Read the count, low and high, every so many cycles; an event that is due first.
     Pair(u64),
+    /// Write OCR1B, high and low, every so many cycles; an event that is due first.
+    Writes(u64),
+    /// Read TIFR and clear a bit of it, every so many cycles; an event that is due first.
+    Flags(u64),
 }
 
 const SOAK: &[(u16, u8)] = &[(0x47, 100), (0x48, 200), (0x45, 1)];
 const DOOR: &[(u16, u8)] = &[(0x47, 64), (0x48, 192), (0x44, 0xb3), (0x45, 1)];
 const POLL: &[(u16, u8)] = &[(0x89, 0x3d), (0x88, 0x08), (0x8b, 0xff), (0x8a, 0xff), (0x81, 0x0b)];
 
-pub const WORKS: [Work; 7] = [
+pub const WORKS: [Work; 9] = [
     Work {
         name: "W1 soak",
         what: "Timer0 normal, /1, OCR0A 100, OCR0B 200; one advance works 204 events",
@@ -86,6 +90,22 @@ pub const WORKS: [Work; 7] = [
         writes: &[(0x81, 5)],
         step: Step::Cycles(60_000_000, 1),
     },
+    Work {
+        name: "W6 writes",
+        what: "Timer1 mode 15, /8; OCR1B high and low every 7 cycles",
+        unit: "pair",
+        timer: Which::Timer1,
+        writes: &[(0x80, 3), (0x81, 0x1a)],
+        step: Step::Writes(7),
+    },
+    Work {
+        name: "W7 flags",
+        what: "Timer1 /8; TIFR read and a bit cleared every 7 cycles. The Rust has it as a byte of memory",
+        unit: "pair",
+        timer: Which::Timer1,
+        writes: &[(0x81, 2)],
+        step: Step::Flags(7),
+    },
 ];
 
 /// A side with the registers of a workload written.
@@ -126,6 +146,30 @@ pub fn run<S: Side>(side: &mut S, step: Step, steps: u64) -> u64 {
                 sum += (side.read(black_box(0x85), cycle) as u64) << 8;
             }
         }
+        Step::Writes(every) => {
+            let mut due = side.next(0);
+            for k in 0..steps {
+                cycle += every;
+                if due <= cycle {
+                    side.advance(cycle);
+                    due = side.next(cycle);
+                }
+                side.write_at(black_box(0x8b), (k >> 8) as u8, cycle);
+                side.write_at(black_box(0x8a), k as u8, cycle);
+            }
+        }
+        Step::Flags(every) => {
+            let mut due = side.next(0);
+            for _ in 0..steps {
+                cycle += every;
+                if due <= cycle {
+                    side.advance(cycle);
+                    due = side.next(cycle);
+                }
+                sum += side.tifr(cycle) as u64;
+                side.clear(black_box(2), cycle);
+            }
+        }
     }
     sum
 }
@@ -135,7 +179,7 @@ impl Step {
     pub fn units(self) -> u64 {
         match self {
             Self::Cycles(_, units) => units,
-            Self::Poll | Self::Pair(_) => 1,
+            Self::Poll | Self::Pair(_) | Self::Writes(_) | Self::Flags(_) => 1,
         }
     }
 }

@@ -1,7 +1,7 @@
 //! The bindings as a side of the oracle's scripts.
 
 use oracle::script::{self, Answer, Distance, Event, State};
-use paddlemauve::{Answer as Told, Call, Capture, Clocks, Compare, Config, Layout, Next, Outcome, Refusal, Timer};
+use paddlemauve::{Advanced, Answer as Told, Call, Capture, Clocks, Compare, Config, Layout, Next, Outcome, Refusal, Timer};
 
 #[derive(Default)]
 pub struct Ours {
@@ -23,7 +23,17 @@ impl Ours {
         let Some((_, timer)) = &mut self.held else {
             return Answer::NoTimer;
         };
-        let Outcome { answer, written: bytes } = timer.call(asked(call), cycle, area);
+        let (mut again, mut copy) = (timer.clone(), area.to_vec());
+        let Outcome { answer, written: bytes, next } = timer.call(asked(call), cycle, area);
+        if let Some(said) = by_name(&mut again, asked(call), cycle, &mut copy) {
+            assert_eq!(said, (answer, bytes), "by its name the call answers otherwise");
+            assert_eq!(again, *timer, "by its name the call leaves another timer");
+            assert!(copy == area, "by its name the call leaves another area");
+        }
+        match answer {
+            Told::Refused(_) => assert_eq!(next, None, "a refusal tells no event"),
+            _ => self.check(next),
+        }
         match answer {
             Told::Refused(why) => Answer::Refused(why.number()),
             Told::Paused(cycle, flags) => Answer::Paused { cycle, next: self.told(flags), bytes },
@@ -34,6 +44,13 @@ impl Ours {
             }
             Told::Reached(flags) => Answer::Done { value: None, next: self.told(flags), bytes },
             Told::Done => Answer::Done { value: None, next: self.next(), bytes },
+        }
+    }
+
+    /// Every accepted reply tells the next event as the timer stands.
+    fn check(&self, next: Option<Next>) {
+        if let Some(Ok(asked)) = self.asked_next() {
+            assert_eq!(next, asked, "a reply tells the event that next answers");
         }
     }
 
@@ -79,6 +96,23 @@ impl Ours {
     pub fn state(&self) -> Option<State> {
         self.held.as_ref().map(|(config, timer)| shown(config, &timer.state()))
     }
+}
+
+/// The same call by the method of its name, where the library has an export of its own for it.
+fn by_name(timer: &mut Timer, call: Call, cycle: u64, area: &mut [u8]) -> Option<(Told, usize)> {
+    let byte = |read: Result<u8, Refusal>| read.map(|value| (Told::Value(value), 0));
+    let said = match call {
+        Call::Advance => timer.advance(cycle, area).map(|ended| match ended {
+            Advanced::Done { written, flags } => (Told::Reached(flags), written),
+            Advanced::Paused { sync, written, flags } => (Told::Paused(sync, flags), written),
+        }),
+        Call::Next => timer.next(cycle).map(|next| (Told::Next(next), 0)),
+        Call::Read(address) => byte(timer.read(address, cycle)),
+        Call::Tifr => byte(timer.tifr(cycle)),
+        Call::WriteTifr(ones) => timer.write_tifr(ones, cycle).map(|()| (Told::Done, 0)),
+        _ => return None,
+    };
+    Some(said.unwrap_or_else(|why| (Told::Refused(why), 0)))
 }
 
 fn event(next: Next) -> Event {

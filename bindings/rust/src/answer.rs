@@ -90,11 +90,13 @@ pub enum Answer {
     Paused(u64, u8),
 }
 
-/// The answer, and how many bytes were written from the area's start.
+/// The answer, how many bytes were written from the area's start, and the next event of the timer as an accepted call left it,
+/// none where the counter does not run.
 #[derive(Clone, Copy, Debug, PartialEq, Eq)]
 pub struct Outcome {
     pub answer: Answer,
     pub written: usize,
+    pub next: Option<Next>,
 }
 
 impl Refusal {
@@ -185,6 +187,21 @@ impl Call {
             Self::Reset => (17, 0, 0, 0),
         };
         raw::Asked { kind, pin, value, address, cycle }
+    }
+}
+
+/// The cycle that a reply says where no event is to come.
+const NEVER: u64 = u64::MAX;
+
+impl Next {
+    #[inline]
+    pub(crate) fn of(reply: &raw::Reply) -> Option<Self> {
+        (reply.number == 0).then_some(Self::at(reply.next, reply.flags))?
+    }
+
+    #[inline]
+    pub(crate) fn at(cycle: u64, flags: u8) -> Option<Self> {
+        (cycle != NEVER).then_some(Self { cycle, flags })
     }
 }
 

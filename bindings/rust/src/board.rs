@@ -108,9 +108,11 @@ impl Board {
         // SAFETY: the board came from the library and only the library has changed it, so it is valid; the areas are lent
         // for the call alone.
         let reply = unsafe { raw::paddlemauve_board_call(&mut self.raw, order.ordered(cycle), zero, one, two) };
-        self.nexts = reply.timers.map(|t| (t.what == 2).then_some(Next { cycle: t.value, flags: t.flags }));
         let raw::Replied { number, what, flags, value, timers } = reply;
-        let answer = Answer::of(&raw::Reply { number, what, flags, value, written: 0 });
+        if number == 0 {
+            self.nexts = timers.map(|t| Next::at(t.next, t.flags));
+        }
+        let answer = Answer::of(&raw::Reply { number, what, flags, value, written: 0, next: 0 });
         BoardOutcome { answer, written: timers.map(|t| t.written as usize) }
     }
 
@@ -190,7 +192,8 @@ impl Board {
 
     /// A copy of a timer as it stands, not synced.
     pub fn timer(&self, id: Id) -> Timer {
-        Timer { raw: self.raw.timers[id as usize] }
+        // SAFETY: the board came from the library and only the library has changed it, so its timers are valid.
+        Timer { raw: unsafe { raw::paddlemauve_hold(self.raw.timers[id as usize]) } }
     }
 
     /// GTCCR as it stands.

@@ -78,7 +78,7 @@ pub fn check() {
 fn shapes() {
     // SAFETY: the function takes nothing and answers two numbers.
     let said = unsafe { raw::paddlemauve_shape() };
-    let ours = Shape { size: size_of::<raw::Timer>() as u64, align: align_of::<raw::Timer>() as u64 };
+    let ours = Shape { size: size_of::<raw::Held>() as u64, align: align_of::<raw::Held>() as u64 };
     assert_eq!(said, ours, "the library's timer is not of our shape: build bindings and library from one commit");
 }
 

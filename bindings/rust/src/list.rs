@@ -67,7 +67,7 @@ impl Timer {
         let bytes: Vec<u8> = list[..fits].iter().flat_map(Write::packed).collect();
         // SAFETY: the timer came from the library and only the library has changed it, so it is valid; list and area are
         // lent for the call alone.
-        let ended = unsafe { raw::paddlemauve_writes(self.raw, raw::List::of(&bytes), raw::Area::of(area)) };
+        let ended = unsafe { raw::paddlemauve_writes(self.raw.timer, raw::List::of(&bytes), raw::Area::of(area)) };
         self.raw = ended.timer;
         let why = match Answer::of(&ended.reply) {
             Answer::Refused(why) => Why::Refused(why),

@@ -1,5 +1,7 @@
 //! What `crates/shell` and `crates/doorlog` export, in C's layout: the configuration of `crates/config`, the timer of `crates/counter`, the
-//! watchdog of `crates/oscillator`, the board of `crates/board`, the log of `crates/log`, and the structs that the two crates name themselves.
+//! watchdog of `crates/oscillator`, the held timer and the reply of `crates/held`, the board of `crates/board`, the log of `crates/log`, and the structs that the two crates name themselves.
+
+use std::mem::MaybeUninit;
 
 #[repr(C)]
 #[derive(Clone, Copy, Debug, PartialEq, Eq)]
@@ -114,10 +116,21 @@ pub struct Timer {
     pub halts: Halts,
 }
 
+/// The words that the library keeps of a timer, and it alone reads.
+const KEPT: usize = 2;
+
+/// A timer as its owner holds it, with what the library keeps of it.
+#[repr(C)]
+#[derive(Clone, Copy)]
+pub struct Held {
+    pub timer: Timer,
+    pub kept: [MaybeUninit<u64>; KEPT],
+}
+
 #[repr(C)]
 pub struct Begun {
     pub number: u8,
-    pub timer: Timer,
+    pub timer: Held,
 }
 
 #[repr(C)]
@@ -138,6 +151,7 @@ pub struct Reply {
     pub flags: u8,
     pub value: u64,
     pub written: u64,
+    pub next: u64,
 }
 
 #[repr(C)]
@@ -183,7 +197,7 @@ impl List {
 
 #[repr(C)]
 pub struct Ended {
-    pub timer: Timer,
+    pub timer: Held,
     pub done: u64,
     pub reply: Reply,
 }
@@ -287,12 +301,20 @@ pub struct Ordered {
 
 #[repr(C)]
 #[derive(Clone, Copy)]
+pub struct Standing {
+    pub flags: u8,
+    pub written: u64,
+    pub next: u64,
+}
+
+#[repr(C)]
+#[derive(Clone, Copy)]
 pub struct Replied {
     pub number: u8,
     pub what: u8,
     pub flags: u8,
     pub value: u64,
-    pub timers: [Reply; 3],
+    pub timers: [Standing; 3],
 }
 
 #[repr(C)]
@@ -357,9 +379,16 @@ pub struct Dumped {
 extern "C" {
     pub fn paddlemauve_shape() -> Shape;
     pub fn paddlemauve_start(config: Config) -> Begun;
+    pub fn paddlemauve_hold(timer: Timer) -> Held;
     pub fn paddlemauve_distance(timer: Timer) -> Distance;
     pub fn paddlemauve_shift(timer: Timer, first: u64, second: u64) -> Shifted;
-    pub fn paddlemauve_call(timer: &mut Timer, asked: Asked, area: Area) -> Reply;
+    pub fn paddlemauve_call(timer: &mut Held, asked: Asked, area: Area) -> Reply;
+    pub fn paddlemauve_advance(timer: &mut Held, cycle: u64, area: Area) -> Reply;
+    pub fn paddlemauve_next(timer: &mut Held, cycle: u64) -> Reply;
+    pub fn paddlemauve_count_low(timer: &mut Held, cycle: u64) -> Reply;
+    pub fn paddlemauve_count_high(timer: &mut Held, cycle: u64) -> Reply;
+    pub fn paddlemauve_tifr(timer: &mut Held, cycle: u64) -> Reply;
+    pub fn paddlemauve_clear(timer: &mut Held, ones: u8, cycle: u64) -> Reply;
     pub fn paddlemauve_writes(timer: Timer, list: List, area: Area) -> Ended;
     pub fn paddlemauve_board() -> Board;
     pub fn paddlemauve_board_shape() -> Shape;

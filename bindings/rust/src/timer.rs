@@ -1,14 +1,16 @@
 //! A timer, held by its owner and lent to the library for each call.
 
+use std::fmt;
+
 use crate::answer::{Answer, Call, Next, Outcome, Refusal};
 use crate::config::Config;
 use crate::{layout, raw};
 
 /// A timer of an accepted configuration. It can only be made by [`Timer::new`] and changed by the calls, so the
-/// library's one premise, that the timer is valid, always holds.
-#[derive(Clone, Debug, PartialEq, Eq)]
+/// library's one premise, that what is kept of a valid timer is kept, always holds.
+#[derive(Clone)]
 pub struct Timer {
-    pub(crate) raw: raw::Timer,
+    pub(crate) raw: raw::Held,
 }
 
 /// A timer as it stands, not synced.
@@ -90,17 +92,19 @@ impl Timer {
     /// Any call, at its cycle, with the area for its records.
     #[inline]
     pub fn call(&mut self, call: Call, cycle: u64, area: &mut [u8]) -> Outcome {
-        // SAFETY: the timer came from the library and only the library has changed it, so it is valid; the area is lent
-        // for the call alone.
+        // SAFETY: the timer came from the library and only the library has changed it, so what is kept of it is kept; the
+        // area is lent for the call alone.
         let reply = unsafe { raw::paddlemauve_call(&mut self.raw, call.asked(cycle), raw::Area::of(area)) };
-        Outcome { answer: Answer::of(&reply), written: reply.written as usize }
+        Outcome { answer: Answer::of(&reply), written: reply.written as usize, next: Next::of(&reply) }
     }
 
     /// Time passes up to a cycle, or to the first tick whose records do not fit the area.
     #[inline]
     pub fn advance(&mut self, cycle: u64, area: &mut [u8]) -> Result<Advanced, Refusal> {
-        let Outcome { answer, written } = self.call(Call::Advance, cycle, area);
-        match answer {
+        // SAFETY: as of call.
+        let reply = unsafe { raw::paddlemauve_advance(&mut self.raw, cycle, raw::Area::of(area)) };
+        let written = reply.written as usize;
+        match Answer::of(&reply) {
             Answer::Refused(why) => Err(why),
             Answer::Reached(flags) => Ok(Advanced::Done { written, flags }),
             Answer::Paused(sync, flags) => Ok(Advanced::Paused { sync, written, flags }),
@@ -111,7 +115,9 @@ impl Timer {
     /// The next event with its flags, or none where the counter does not run.
     #[inline]
     pub fn next(&mut self, cycle: u64) -> Result<Option<Next>, Refusal> {
-        match self.call(Call::Next, cycle, &mut []).answer {
+        // SAFETY: as of call.
+        let reply = unsafe { raw::paddlemauve_next(&mut self.raw, cycle) };
+        match Answer::of(&reply) {
             Answer::Refused(why) => Err(why),
             Answer::Next(at) => Ok(at),
             other => unreachable!("next answers {other:?}"),
@@ -121,6 +127,15 @@ impl Timer {
     /// A register's byte as a program reads it: of TCNTn and ICRn a low byte fills TEMP, a high byte is TEMP; OCRn passes TEMP by.
     #[inline]
     pub fn read(&mut self, address: u16, cycle: u64) -> Result<u8, Refusal> {
+        let raw::Config { tcnt, wide, .. } = self.raw.timer.config;
+        if address == tcnt {
+            // SAFETY: as of call.
+            return byte_of(&unsafe { raw::paddlemauve_count_low(&mut self.raw, cycle) });
+        }
+        if wide && address.wrapping_sub(tcnt) == 1 {
+            // SAFETY: as of call.
+            return byte_of(&unsafe { raw::paddlemauve_count_high(&mut self.raw, cycle) });
+        }
         self.byte(Call::Read(address), cycle)
     }
 
@@ -136,8 +151,10 @@ impl Timer {
         self.recorded(Call::Write(address, value), cycle, area)
     }
 
+    #[inline]
     pub fn tifr(&mut self, cycle: u64) -> Result<u8, Refusal> {
-        self.byte(Call::Tifr, cycle)
+        // SAFETY: as of call.
+        byte_of(&unsafe { raw::paddlemauve_tifr(&mut self.raw, cycle) })
     }
 
     pub fn timsk(&mut self, cycle: u64) -> Result<u8, Refusal> {
@@ -145,8 +162,14 @@ impl Timer {
     }
 
     /// Ones clear bits of TIFR.
+    #[inline]
     pub fn write_tifr(&mut self, ones: u8, cycle: u64) -> Result<(), Refusal> {
-        self.silent(Call::WriteTifr(ones), cycle)
+        // SAFETY: as of call.
+        let reply = unsafe { raw::paddlemauve_clear(&mut self.raw, ones, cycle) };
+        match Answer::of(&reply) {
+            Answer::Refused(why) => Err(why),
+            _ => Ok(()),
+        }
     }
 
     pub fn write_timsk(&mut self, mask: u8, cycle: u64) -> Result<(), Refusal> {
@@ -197,11 +220,11 @@ impl Timer {
 
     /// The counts made since the reset, prescaled ticks and T-pin ticks alike, modulo 2^64, as the timer stands.
     pub fn odometer(&self) -> u64 {
-        self.raw.counter.odometer
+        self.raw.timer.counter.odometer
     }
 
     pub fn state(&self) -> State {
-        let raw::Timer { counter, ocr, buffer, oc, drives, registers, flags, clock, halts, .. } = self.raw;
+        let raw::Timer { counter, ocr, buffer, oc, drives, registers, flags, clock, halts, .. } = self.raw.timer;
         State {
             count: counter.count,
             direction: counter.direction,
@@ -230,7 +253,7 @@ impl Timer {
     /// The distance of the timer as it stands, running or not.
     pub fn distance(&self) -> Distance {
         // SAFETY: the timer came from the library and only the library has changed it, so it is valid.
-        let raw::Distance { ticks, flags, looked } = unsafe { raw::paddlemauve_distance(self.raw) };
+        let raw::Distance { ticks, flags, looked } = unsafe { raw::paddlemauve_distance(self.raw.timer) };
         Distance { ticks, flags, looked }
     }
 
@@ -249,7 +272,7 @@ impl Timer {
     /// ```
     pub fn shift(&self, first: u64, second: u64) -> Result<i32, Refusal> {
         // SAFETY: the timer came from the library and only the library has changed it, so it is valid.
-        let raw::Shifted { number, ticks } = unsafe { raw::paddlemauve_shift(self.raw, first, second) };
+        let raw::Shifted { number, ticks } = unsafe { raw::paddlemauve_shift(self.raw.timer, first, second) };
         match number {
             0 => Ok(ticks),
             number => Err(Refusal::of(number)),
@@ -269,7 +292,7 @@ impl Timer {
     /// A call that writes records and yields nothing else.
     #[inline]
     fn recorded(&mut self, call: Call, cycle: u64, area: &mut [u8]) -> Result<usize, Refusal> {
-        let Outcome { answer, written } = self.call(call, cycle, area);
+        let Outcome { answer, written, .. } = self.call(call, cycle, area);
         match answer {
             Answer::Refused(why) => Err(why),
             _ => Ok(written),
@@ -279,5 +302,29 @@ impl Timer {
     /// A call that yields nothing and writes no record.
     fn silent(&mut self, call: Call, cycle: u64) -> Result<(), Refusal> {
         self.recorded(call, cycle, &mut []).map(|_| ())
+    }
+}
+
+/// What a call that yields a byte replied.
+#[inline]
+fn byte_of(reply: &raw::Reply) -> Result<u8, Refusal> {
+    match Answer::of(reply) {
+        Answer::Refused(why) => Err(why),
+        Answer::Value(byte) => Ok(byte),
+        other => unreachable!("a read answers {other:?}"),
+    }
+}
+
+impl PartialEq for Timer {
+    fn eq(&self, other: &Self) -> bool {
+        self.raw.timer == other.raw.timer
+    }
+}
+
+impl Eq for Timer {}
+
+impl fmt::Debug for Timer {
+    fn fmt(&self, f: &mut fmt::Formatter) -> fmt::Result {
+        self.raw.timer.fmt(f)
     }
 }

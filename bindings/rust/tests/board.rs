@@ -80,7 +80,7 @@ impl Three {
     }
 
     fn own(&mut self, i: usize, call: Call, cycle: u64, areas: &mut [Vec<u8>; 3]) -> BoardOutcome {
-        let Outcome { answer, written: bytes } = self.timers[i].call(call, cycle, &mut areas[i]);
+        let Outcome { answer, written: bytes, .. } = self.timers[i].call(call, cycle, &mut areas[i]);
         let mut written = [0; 3];
         written[i] = bytes;
         BoardOutcome { answer, written }
@@ -126,7 +126,7 @@ fn refusal(timer: &mut Timer, calls: &[Call], cycle: u64) -> Option<Refusal> {
     calls.iter().find_map(|&call| match timer.call(call, cycle, &mut []) {
         Outcome { answer: Answer::Refused(why), .. } => Some(why),
         outcome => {
-            assert_eq!(outcome, Outcome { answer: Answer::Done, written: 0 });
+            assert_eq!((outcome.answer, outcome.written), (Answer::Done, 0));
             None
         }
     })

@@ -10,7 +10,8 @@ fn timer0() -> Timer {
 fn refuses(timer: &mut Timer, call: Call, cycle: u64, size: usize, why: Refusal) {
     let before = timer.clone();
     let mut area = vec![0xa5; size];
-    assert_eq!(timer.call(call, cycle, &mut area), Outcome { answer: Answer::Refused(why), written: 0 });
+    let Outcome { answer, written, .. } = timer.call(call, cycle, &mut area);
+    assert_eq!((answer, written), (Answer::Refused(why), 0));
     assert_eq!(*timer, before);
     assert!(area.iter().all(|&b| b == 0xa5));
 }

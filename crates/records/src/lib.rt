@@ -7,7 +7,8 @@ ghost use mathlib.Core.Bool.{cond};
 ghost use Prim.Native.Nat.{_+_, _≤_};
 ghost use lib.ListN.{length, replicate, take};
 ghost use lib.Seq.{sets};
-ghost use Rattle.records.specs.Records.{recordOf, recordsOf, only, fits};
+ghost use Rattle.records.specs.Records.{bytesOf, recordOf, recordsOf, only, fits};
+ghost use mathlib.Core.List.{_++_, reverse};
 
 // A record without its cycle: its kind (2 bits) and its body (16).
 pub struct Entry {
@@ -22,16 +23,40 @@ pub fn put(area: &mut [u8], at: usize, cycle: u64, entry: Entry) -> usize
 {
     let head = ((entry.kind % 4) as u64) * 0x4000_0000_0000_0000 + cycle % 0x4000_0000_0000_0000;
     let body = entry.body;
-    area[at] = (head / 0x100_0000_0000_0000 % 256) as u8;
-    area[at + 1] = (head / 0x1_0000_0000_0000 % 256) as u8;
-    area[at + 2] = (head / 0x100_0000_0000 % 256) as u8;
-    area[at + 3] = (head / 0x1_0000_0000 % 256) as u8;
-    area[at + 4] = (head / 0x100_0000 % 256) as u8;
-    area[at + 5] = (head / 0x1_0000 % 256) as u8;
-    area[at + 6] = (head / 0x100 % 256) as u8;
-    area[at + 7] = (head % 256) as u8;
-    area[at + 8] = (body / 0x100 % 256) as u8;
-    area[at + 9] = (body % 256) as u8;
+    laid(area, at, swapped(head), body / 256 + body % 256 * 256)
+}
+
+// The eight bytes of a word in the other order.
+pub fn swapped(c: u64) -> u64
+    ensures { λ r. ⌜ reverse (bytesOf 8 r) ≡ bytesOf 8 c ⌝ }
+{
+    let b7 = c % 256;
+    let b6 = c / 0x100 % 256;
+    let b5 = c / 0x1_0000 % 256;
+    let b4 = c / 0x100_0000 % 256;
+    let b3 = c / 0x1_0000_0000 % 256;
+    let b2 = c / 0x100_0000_0000 % 256;
+    let b1 = c / 0x1_0000_0000_0000 % 256;
+    let b0 = c / 0x100_0000_0000_0000 % 256;
+    b0 + 256 * (b1 + 256 * (b2 + 256 * (b3 + 256 * (b4 + 256 * (b5 + 256 * (b6 + 256 * b7))))))
+}
+
+// Writes a word and a half word at a place of the area, each with its low byte first; yields the place after them. It is a
+// function of its own, with the word as a parameter: so LLVM makes one store of the eight bytes.
+pub fn laid(area: &mut [u8], at: usize, s: u64, body: u16) -> usize
+    requires { ⌜ at + 10 ≤ length (now area) ⌝ }
+    ensures { λ r. ⌜ (r ≡ at + 10) × (now (area .exit) ≡ sets (now (area .entry)) at (reverse (bytesOf 8 s) ++ reverse (bytesOf 2 body))) ⌝ }
+{
+    area[at] = (s % 256) as u8;
+    area[at + 1] = (s / 0x100 % 256) as u8;
+    area[at + 2] = (s / 0x1_0000 % 256) as u8;
+    area[at + 3] = (s / 0x100_0000 % 256) as u8;
+    area[at + 4] = (s / 0x1_0000_0000 % 256) as u8;
+    area[at + 5] = (s / 0x100_0000_0000 % 256) as u8;
+    area[at + 6] = (s / 0x1_0000_0000_0000 % 256) as u8;
+    area[at + 7] = (s / 0x100_0000_0000_0000 % 256) as u8;
+    area[at + 8] = (body % 256) as u8;
+    area[at + 9] = (body / 0x100 % 256) as u8;
     at + 10
 }
 

@@ -1,8 +1,13 @@
+pub mod Cells
 pub mod Histories
 pub mod Listed
 pub mod Obeyed
 pub mod Past
+pub mod Places
+pub mod Raws
 pub mod Replied
 pub mod Reported
+pub mod Runs
+pub mod Said
 pub mod Shape
 pub mod Walk

@@ -1,4 +1,4 @@
--- What `step` and `paddlemauve_start` promise, of what their callees do.
+-- What `any` and `paddlemauve_start` promise, of what their callees do.
 use Prim.Native.Nat.{ℕ}
 use mathlib.Core.List.{List}
 use mathlib.Core.Path.{_≡_, refl, sym}
@@ -9,23 +9,16 @@ use Rattle.counter.specs.Valid.{Valid}
 use Rattle.shell.specs.declared.asked.Asked.{Asked}
 use Rattle.shell.specs.declared.asked.Wanted.{Wanted}
 use Rattle.shell.specs.declared.asked.Wanted.the-variants as wanted
-use Rattle.shell.specs.declared.exports.Begun.{Begun}
-use Rattle.shell.specs.declared.exports.Stepped.{Stepped}
-use Rattle.shell.specs.Numbers.{callOf, replyOf, steppedOf, answeredTo, Replies, Begins}
+use Rattle.held.specs.declared.state.Held.{Held}
+use Rattle.held.specs.declared.reply.Reply.{Reply}
+use Rattle.held.specs.Held.{Kept}
+use Rattle.held.specs.Reply.{Serves}
+use Rattle.shell.specs.Numbers.{callOf, answeredTo, Begins}
 use Rattle.answers.specs.Answers.{Told, Tells, turned}
 use Rattle.timer.specs.Calls.{answered}
 use Rattle.answers.specs.declared.Answer.the-variants as answer
 use Rattle.answers.specs.declared.Outcome.{Outcome}
 use Rattle.timer.specs.declared.calls.Call.{Call}
-
--- the core's outcome, its answer in numbers
-told : (x : Told) (o : Outcome) (zs : List ℕ) → Tells x o zs → Replies x (steppedOf o .timer) (steppedOf o .reply) zs
-told x o zs e = record {
-  timer = e .timer;
-  reply = λ i. replyOf (e .number i) (e .values i) (e .written i);
-  area = e .area;
-  valid = e .valid;
-}
 
 -- a call that turns its timer away tells so
 away : (n : ℕ) (t : Timer) (ys : List ℕ) → Valid t → Tells (turned n t ys) (record { answer = answer.Refused n; timer = t; written = 0 }) ys
@@ -35,12 +28,13 @@ pub known-tells : (t : Timer) (q : Asked) (w : Wanted) (c : Call) (ys zs : List 
     → w ≡ callOf q → w ≡ wanted.Known c → Tells (answered ticks t c (q .cycle) ys) o zs → Tells (answeredTo t (callOf q) (q .cycle) ys) o zs
 known-tells t q w c ys zs o ew ec e = rw (sym ew, ec) e
 
+-- a call that its number names serves so
+pub known-serves : (t : Timer) (q : Asked) (c : Call) (ys : List ℕ) {zs : List ℕ} {h : Held} {r : Reply} → callOf q ≡ wanted.Known c → Serves (answered ticks t c (q .cycle) ys) h r zs → Serves (answeredTo t (callOf q) (q .cycle) ys) h r zs
+known-serves t q c ys e k = rw e k
+
 pub unknown-tells : (t : Timer) (q : Asked) (w : Wanted) (ys : List ℕ) (o : Outcome)
     → Valid t → w ≡ callOf q → w ≡ wanted.Unknown → o ≡ record { answer = answer.Refused 255; timer = t; written = 0 } → Tells (answeredTo t (callOf q) (q .cycle) ys) o ys
 unknown-tells t q w ys o v ew ec eo = rw (sym ew, ec, eo) (away 255 t ys v)
 
-pub replies : (x : Told) (o : Outcome) (s : Stepped) (zs : List ℕ) → Tells x o zs → s ≡ steppedOf o → Replies x (s .timer) (s .reply) zs
-replies x o s zs e es = rw es (told x o zs e)
-
-pub begins : (s x : Started) (r : Begun) → s ≡ x → Valid (s .timer) → r .number ≡ s .number → r .timer ≡ s .timer → Begins x r
-begins s x r e v en et = rw (sym e) (record { number = en; timer = et; valid = rw et v })
+pub begins : (s x : Started) (h : Held) {n : ℕ} → s ≡ x → n ≡ s .number → (h .timer ≡ s .timer) × (Kept h) → Begins x (record { number = n; timer = h })
+begins s x h e en k = rw (sym e) (record { number = en; timer = k .0; kept = k .1 })

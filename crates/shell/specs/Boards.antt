@@ -5,7 +5,8 @@ use mathlib.Core.Path.{_≡_}
 use Rattle.counter.specs.declared.state.Timer.{Timer}
 use Rattle.counter.specs.Next.{nextOf}
 use Rattle.passage.specs.Passage.{ticks}
-use Rattle.answers.specs.Answers.{Values, event, numberOf, valuesOf}
+use Rattle.counter.specs.declared.next.Next.the-variants as next
+use Rattle.answers.specs.Answers.{Values, refused, none, byte, event, reached, paused, numberOf, valuesOf}
 use Rattle.m328p.specs.declared.Id.{Id}
 use Rattle.m328p.specs.declared.Id.the-variants as id
 use Rattle.aims.specs.declared.Order.{Order}
@@ -15,14 +16,15 @@ use Rattle.board.specs.declared.outcome.Outcome.{Outcome}
 use Rattle.board.specs.declared.outcome.Written.{Written}
 use Rattle.board.specs.State.{Valid}
 use Rattle.board.specs.Calls.{Areas, Told, told, turned}
-use Rattle.shell.specs.declared.asked.Reply.{Reply}
 use Rattle.shell.specs.declared.exports.Shape.{Shape}
 use Rattle.shell.specs.declared.boards.Ordered.{Ordered}
+use Rattle.shell.specs.declared.boards.Standing.{Standing}
 use Rattle.shell.specs.declared.boards.Replied.{Replied}
 use Rattle.shell.specs.declared.boards.Moved.{Moved}
 use Rattle.shell.specs.declared.boards.Meant.{Meant}
 use Rattle.shell.specs.declared.boards.Meant.the-variants as meant
-use Rattle.shell.specs.Numbers.{whatOf, valueOf, flagsOf, replyOf}
+use Rattle.held.specs.Held.{codeOf, flagsIn}
+use Rattle.held.specs.Reply.{whatOf, valueOf, beside}
 
 -- ---- orders
 
@@ -50,9 +52,19 @@ orderOf q = meantBy (q .id) q
 
 -- ---- answers
 
--- what a timer replies to `next`, beside the bytes written in its area
-abbrev pub standingOf : Timer → ℕ → Reply
-standingOf t written = replyOf 0 (event (nextOf t)) written
+-- the flags of an answer, 0 where it has none
+abbrev pub flagsOf : Values → ℕ
+flagsOf refused = 0
+flagsOf none = 0
+flagsOf (byte v) = 0
+flagsOf (event (next.At c f)) = f
+flagsOf (event next.Never) = 0
+flagsOf (reached f) = f
+flagsOf (paused c f) = f
+
+-- a timer's next event, where the order is accepted, and the bytes written in its area
+abbrev pub standingOf : Values → Timer → ℕ → Standing
+standingOf v t written = record { flags = beside v (flagsIn (nextOf t)); written = written; next = beside v (codeOf (nextOf t)) }
 
 -- an answer in numbers, and of each timer of the board after it the next event
 abbrev pub repliedOf : ℕ → Values → Written → Board → Replied
@@ -61,9 +73,9 @@ repliedOf number values written b = record {
   what = whatOf values;
   flags = flagsOf values;
   value = valueOf values;
-  zero = standingOf (b .zero) (written .zero);
-  one = standingOf (b .one) (written .one);
-  two = standingOf (b .two) (written .two);
+  zero = standingOf values (b .zero) (written .zero);
+  one = standingOf values (b .one) (written .one);
+  two = standingOf values (b .two) (written .two);
 }
 
 -- the code's outcome, its answer in numbers

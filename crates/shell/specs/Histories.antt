@@ -15,11 +15,13 @@ use Rattle.answers.specs.Answers.{Values, refused, none, byte, event, reached, 
 use Rattle.timer.specs.declared.calls.Call.{Call}
 use Rattle.timer.specs.Claims.{Request, told, outcomes, last}
 use Rattle.shell.specs.declared.asked.Asked.{Asked}
-use Rattle.shell.specs.declared.asked.Reply.{Reply}
+use Rattle.held.specs.declared.reply.Reply.{Reply}
+use Rattle.held.specs.declared.state.Held.{Held}
+use Rattle.held.specs.Reply.{Serves}
 use Rattle.shell.specs.declared.asked.Wanted.the-variants as wanted
 use Rattle.shell.specs.declared.lent.Told.{Told as Lent}
 use Rattle.shell.specs.Lent.{Leaves}
-use Rattle.shell.specs.Numbers.{callOf, answeredTo, Replies}
+use Rattle.shell.specs.Numbers.{callOf, answeredTo}
 
 -- what the code's outcome and the area after it say, in 01's terms
 abbrev pub heard : Outcome → List ℕ → Told
@@ -41,17 +43,19 @@ replied t r after = record { timer = t; number = r .number; values = valuesIn (r
 abbrev pub asking : Asked → Call → List ℕ → Request
 asking a c area = record { call = c; cycle = a .cycle; area = area }
 
--- a history of the public functions, each on the timer as the one before gave it back or left it, each with its promise: by value, on a lent timer, or exported;
+-- a history of the public functions, each on the timer as the one before gave it back or left it, each with its promise: by value, on a lent timer, or exported, by its number or by its name;
 -- a number that names no call is no call of the run
 pub data History : Timer → List Request → List Told → Timer → Type 0 where
   nothing : (t : Timer) → History t [] [] t
   called : (t : Timer) (q : Request) (r : Outcome) (after : List ℕ) (qs : List Request) (xs : List Told) (u : Timer) → Tells (told ticks t q) r after → History (r .timer) qs xs u → History t (q ∷ qs) (heard r after ∷ xs) u
   lent : (t : Timer) (q : Request) (s : Timer) (r : Lent) (after : List ℕ) (qs : List Request) (xs : List Told) (u : Timer) → Leaves (told ticks t q) s r after → History s qs xs u
       → History t (q ∷ qs) (heard (record { answer = r .answer; timer = s; written = r .written }) after ∷ xs) u
-  exported : (t : Timer) (a : Asked) (c : Call) (area : List ℕ) (s : Timer) (r : Reply) (after : List ℕ) (qs : List Request) (xs : List Told) (u : Timer) → callOf a ≡ wanted.Known c
-      → Replies (answeredTo t (callOf a) (a .cycle) area) s r after → History s qs xs u → History t (asking a c area ∷ qs) (replied s r after ∷ xs) u
-  unnamed : (t : Timer) (a : Asked) (area : List ℕ) (s : Timer) (r : Reply) (after : List ℕ) (qs : List Request) (xs : List Told) (u : Timer) → callOf a ≡ wanted.Unknown
-      → Replies (answeredTo t (callOf a) (a .cycle) area) s r after → History s qs xs u → History t qs xs u
+  exported : (t : Timer) (a : Asked) (c : Call) (area : List ℕ) (h : Held) (r : Reply) (after : List ℕ) (qs : List Request) (xs : List Told) (u : Timer) → callOf a ≡ wanted.Known c
+      → Serves (answeredTo t (callOf a) (a .cycle) area) h r after → History (h .timer) qs xs u → History t (asking a c area ∷ qs) (replied (h .timer) r after ∷ xs) u
+  unnamed : (t : Timer) (a : Asked) (area : List ℕ) (h : Held) (r : Reply) (after : List ℕ) (qs : List Request) (xs : List Told) (u : Timer) → callOf a ≡ wanted.Unknown
+      → Serves (answeredTo t (callOf a) (a .cycle) area) h r after → History (h .timer) qs xs u → History t qs xs u
+  served : (t : Timer) (q : Request) (h : Held) (r : Reply) (after : List ℕ) (qs : List Request) (xs : List Told) (u : Timer) → Serves (told ticks t q) h r after → History (h .timer) qs xs u
+      → History t (q ∷ qs) (replied (h .timer) r after ∷ xs) u
 
 -- The code is that run: what a history of the public functions gave is what the counter that skips gives, outcome by outcome
 pub record Heard (c : Config) (qs : List Request) (xs : List Told) (u : Timer) : Type 0 where

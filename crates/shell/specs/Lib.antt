@@ -4,4 +4,5 @@ pub mod Lists
 pub mod Numbers
 pub mod Shifts
 pub mod Histories
+pub mod Runs
 pub mod Watchdogs

@@ -4,9 +4,9 @@ use mathlib.Core.List.{List}
 use mathlib.Core.Path.{_≡_}
 use Rattle.writes.specs.Writes.{Listed}
 use Rattle.shell.specs.declared.lists.Ended.{Ended}
-use Rattle.shell.specs.Numbers.{Replies}
+use Rattle.held.specs.Reply.{Serves}
 
--- the items done, and of timer, reason, bytes written and every byte of the area what a call replies; the timer is valid
+-- the items done, and of timer, reason, bytes written and every byte of the area what a call replies; what is kept of the timer is kept
 pub record Ends (x : Listed) (r : Ended) (area : List ℕ) : Type 0 where
   pub done : r .done ≡ x .done
-  pub told : Replies (x .told) (r .timer) (r .reply) area
+  pub told : Serves (x .told) (r .timer) (r .reply) area

@@ -1,6 +1,5 @@
 // The board for Rust and C: an order and its answer in numbers, on a lent board.
 
-use crate::asked::Reply;
 use crate::exports::Shape;
 use aims::Order;
 use answers::Answer;
@@ -8,14 +7,19 @@ use answers::Outcome;
 use board::call;
 use board::refused;
 use board::state::Board;
+use counter::next::Next;
 use counter::state::Timer;
+use held::reply::Reply;
+use held::state::NEVER;
 use m328p::Id;
 use time::units::Cycle;
 ghost use mathlib.Core.Path.{_≡_};
 ghost use Rattle.counter.specs.Valid.{Valid as Running};
+ghost use Rattle.answers.specs.Answers.{valuesOf};
+ghost use Rattle.held.specs.Reply.{beside};
 ghost use Rattle.board.specs.State.{freshBoard, Valid};
 ghost use Rattle.board.specs.Calls.{areasOf, Tells};
-ghost use Rattle.shell.specs.Boards.{orders, meantAt, orderOf, standingOf, movedOf, boardShape, toldTo, Obeys};
+ghost use Rattle.shell.specs.Boards.{orders, meantAt, orderOf, flagsOf, standingOf, movedOf, boardShape, toldTo, Obeys};
 
 // kind is the order's place in `aims::Order`, from 0 on, and id a timer's, 0 to 2; of the other arguments it takes those that it has.
 #[repr(C)]
@@ -28,17 +32,24 @@ pub struct Ordered {
     pub cycle: u64,
 }
 
-// number, what, flags and value are those of a timer's reply. zero, one and two say what each timer then replies to `next`; written
-// counts there the bytes that the order wrote in its area.
+// Of a timer of the board, as a timer's reply has them: the bytes that the order wrote in its area, and its next event.
+#[repr(C)]
+pub struct Standing {
+    pub flags: u8,
+    pub written: u64,
+    pub next: u64,
+}
+
+// number, what and value are those of a timer's reply, and so are flags, where the answer has some.
 #[repr(C)]
 pub struct Replied {
     pub number: u8,
     pub what: u8,
     pub flags: u8,
     pub value: u64,
-    pub zero: Reply,
-    pub one: Reply,
-    pub two: Reply,
+    pub zero: Standing,
+    pub one: Standing,
+    pub two: Standing,
 }
 
 // The board after an order, and the reply.
@@ -90,17 +101,53 @@ impl Ordered {
     }
 }
 
-// Yields what a timer replies to `next`, beside the bytes written in its area.
-fn standing(t: Timer, written: usize) -> Reply
-    requires { ⌜ Running t ⌝ }
-    ensures { λ r. ⌜ r ≡ standingOf t written ⌝ }
+// Yields what a reply to an answer tells of a timer.
+fn stood(answer: Answer, t: Timer, written: usize, next: u64, flags: u8) -> Standing
+    ensures { λ r. ⌜ r ≡ record { flags = beside (valuesOf answer) flags; written = written; next = beside (valuesOf answer) next } ⌝ }
 {
-    let answer = Answer::Next(t.next());
-    Reply::of(Outcome {
-        answer,
-        timer: t,
-        written,
-    })
+    let r = Reply::of(
+        Outcome {
+            answer,
+            timer: t,
+            written,
+        },
+        next,
+        flags,
+    );
+    Standing {
+        flags: r.flags,
+        written: r.written,
+        next: r.next,
+    }
+}
+
+// Yields a timer's next event, where the order is accepted, and the bytes written in its area.
+fn told_of(answer: Answer, t: Timer, written: usize) -> Standing
+    requires { ⌜ Running t ⌝ }
+    ensures { λ r. ⌜ r ≡ standingOf (valuesOf answer) t written ⌝ }
+{
+    let next = t.next();
+    match next {
+        Next::At(c, f) => stood(answer, t, written, c.0, f),
+        Next::Never => stood(answer, t, written, NEVER, 0),
+    }
+}
+
+// Yields an answer's flags, 0 where it has none.
+fn flags_of(answer: Answer) -> u8
+    ensures { λ r. ⌜ r ≡ flagsOf (valuesOf answer) ⌝ }
+{
+    match answer {
+        Answer::Refused(n) => 0,
+        Answer::Done => 0,
+        Answer::Value(v) => 0,
+        Answer::Next(n) => match n {
+            Next::At(c, f) => f,
+            Next::Never => 0,
+        },
+        Answer::Reached(f) => f,
+        Answer::Paused(c, f) => f,
+    }
 }
 
 // Yields an outcome's board, and its answer in numbers.
@@ -112,18 +159,22 @@ fn numbered(o: board::outcome::Outcome) -> Moved
     let board = o.board;
     let written = o.written;
     let timer = board.zero;
-    let zero = standing(timer, written.zero);
-    let one = standing(board.one, written.one);
-    let two = standing(board.two, written.two);
-    let r = Reply::of(Outcome {
-        answer,
-        timer,
-        written: 0,
-    });
+    let zero = told_of(answer, timer, written.zero);
+    let one = told_of(answer, board.one, written.one);
+    let two = told_of(answer, board.two, written.two);
+    let r = Reply::of(
+        Outcome {
+            answer,
+            timer,
+            written: 0,
+        },
+        0,
+        0,
+    );
     let reply = Replied {
         number: r.number,
         what: r.what,
-        flags: r.flags,
+        flags: flags_of(answer),
         value: r.value,
         zero,
         one,

@@ -1,48 +1,43 @@
 // What Rust and C call.
 
 use crate::asked::Asked;
-use crate::asked::Reply;
 use crate::asked::Wanted;
 use answers::Outcome;
 use answers::refused;
 use config::Config;
 use counter::state::Timer;
+use held::calls::Called;
+use held::calls::advance;
+use held::calls::holding;
+use held::quick::clearing;
+use held::quick::counting;
+use held::quick::flagging;
+use held::quick::nexting;
+use held::quick::temping;
+use held::reply::Reply;
+use held::state::Held;
+use held::state::held_of;
 use tick::distance::Distance;
 use time::units::Cycle;
 use timer::call;
-use timer::calls::advance;
-use timer::calls::next;
-use timer::calls::read;
 ghost use mathlib.Core.Path.{_≡_};
 ghost use Rattle.answers.specs.Answers.{Tells};
 ghost use Rattle.counter.specs.Fresh.{startedOf};
 ghost use Rattle.tick.specs.Distance.{distanceOf};
 ghost use Rattle.counter.specs.Setting.{settingOf, movingOf};
 ghost use Rattle.counter.specs.Valid.{Valid};
-ghost use Rattle.shell.specs.Numbers.{callOf, shape, steppedOf, answeredTo, Replies, Begins};
+ghost use Rattle.passage.specs.Passage.{ticks};
+ghost use Rattle.timer.specs.Calls.{answered};
+ghost use Rattle.timer.specs.declared.calls.Call.{Call};
+ghost use Rattle.held.specs.Held.{Kept};
+ghost use Rattle.held.specs.Reply.{Serves, Served, countLow};
+ghost use Rattle.shell.specs.Numbers.{callOf, shape, answeredTo, Begins, High};
 
 // The refusal's number, 0 for none, and the timer.
 #[repr(C)]
 pub struct Begun {
     pub number: u8,
-    pub timer: Timer,
-}
-
-// The timer after a call, and the reply.
-pub struct Stepped {
-    pub timer: Timer,
-    pub reply: Reply,
-}
-
-// Yields an outcome's timer, and its answer in numbers.
-fn numbered(o: Outcome) -> Stepped
-    ensures { λ r. ⌜ r ≡ steppedOf o ⌝ }
-{
-    let timer = o.timer;
-    Stepped {
-        timer,
-        reply: Reply::of(o),
-    }
+    pub timer: Held,
 }
 
 // Any call, by its number.
@@ -57,35 +52,33 @@ fn any(t: Timer, asked: Asked, area: &mut [u8]) -> Outcome
     }
 }
 
-// A call by value: its number becomes the call, and its answer numbers. The calls of a busy bench go straight to their
-// functions, so that LLVM keeps the timer in memory for them.
-pub fn step(t: Timer, asked: Asked, area: &mut [u8]) -> Stepped
-    requires { ⌜ Valid t ⌝ }
-    ensures { λ r. ⌜ Replies (answeredTo t (callOf asked) (asked .cycle) (now (area .entry))) (r .timer) (r .reply) (now (area .exit)) ⌝ }
+// A call by value: its number becomes the call, and its answer numbers.
+pub fn step(h: Held, asked: Asked, area: &mut [u8]) -> Called
+    requires { ⌜ Kept h ⌝ }
+    ensures { λ r. ⌜ Serves (answeredTo (h .timer) (callOf asked) (asked .cycle) (now (area .entry))) (r .held) (r .reply) (now (area .exit)) ⌝ }
 {
     let kind = asked.kind;
+    let t = h.timer;
     match kind {
-        0 => numbered(advance(t, Cycle(asked.cycle), area)),
-        1 => numbered(next(t, Cycle(asked.cycle), area)),
-        2 => numbered(read(t, asked.address, Cycle(asked.cycle), area)),
-        _ => numbered(any(t, asked, area)),
+        0 => advance(h, asked.cycle, area),
+        _ => holding(any(t, asked, area)),
     }
 }
 
-// The bytes that a timer takes, and the multiple of which its address must be.
+// The bytes that a held timer takes, and the multiple of which its address must be.
 #[repr(C)]
 pub struct Shape {
     pub size: u64,
     pub align: u64,
 }
 
-// Yields the shape of `Timer`, so that a caller can compare its own.
+// Yields the shape of `Held`, so that a caller can compare its own.
 #[no_mangle]
 pub extern "C" fn paddlemauve_shape() -> Shape
     ensures { λ r. ⌜ r ≡ shape ⌝ }
 {
     Shape {
-        size: 184,
+        size: 200,
         align: 8,
     }
 }
@@ -96,11 +89,21 @@ pub extern "C" fn paddlemauve_start(config: Config) -> Begun
     ensures { λ r. ⌜ Begins (startedOf config) r ⌝ }
 {
     let s = Timer::new(config);
-    let timer = s.timer;
+    let t = s.timer;
+    let timer = held_of(t);
     Begun {
         number: s.number,
         timer,
     }
+}
+
+// Yields a timer with what is kept of it, where another call has left the timer alone.
+#[no_mangle]
+pub extern "C" fn paddlemauve_hold(t: Timer) -> Held
+    requires { ⌜ Valid t ⌝ }
+    ensures { λ r. ⌜ (r .timer ≡ t) × Kept r ⌝ }
+{
+    held_of(t)
 }
 
 // Yields the distance to the next event's tick, of the timer as it stands.
@@ -114,11 +117,110 @@ pub extern "C" fn paddlemauve_distance(t: Timer) -> Distance
 
 // Any call on a lent timer.
 #[no_mangle]
-pub extern "C" fn paddlemauve_call(t: &mut Timer, asked: Asked, area: &mut [u8]) -> Reply
-    requires { ⌜ Valid (now t) ⌝ }
-    ensures { λ r. ⌜ Replies (answeredTo (now (t .entry)) (callOf asked) (asked .cycle) (now (area .entry))) (now (t .exit)) r (now (area .exit)) ⌝ }
+pub extern "C" fn paddlemauve_call(t: &mut Held, asked: Asked, area: &mut [u8]) -> Reply
+    requires { ⌜ Kept (now t) ⌝ }
+    ensures { λ r. ⌜ Serves (answeredTo (now (t .entry) .timer) (callOf asked) (asked .cycle) (now (area .entry))) (now (t .exit)) r (now (area .exit)) ⌝ }
 {
     let s = step(*t, asked, area);
-    *t = s.timer;
+    *t = s.held;
     s.reply
+}
+
+// Time passes up to a cycle, or to the first tick whose records do not fit.
+#[no_mangle]
+pub extern "C" fn paddlemauve_advance(t: &mut Held, cycle: u64, area: &mut [u8]) -> Reply
+    requires { ⌜ Kept (now t) ⌝ }
+    ensures { λ r. ⌜ Serves (answered ticks (now (t .entry) .timer) Call.Advance cycle (now (area .entry))) (now (t .exit)) r (now (area .exit)) ⌝ }
+{
+    let s = advance(*t, cycle, area);
+    *t = s.held;
+    s.reply
+}
+
+// Yields the next event with its flags.
+#[no_mangle]
+pub extern "C" fn paddlemauve_next(t: &mut Held, cycle: u64) -> Reply
+    requires { ⌜ Kept (now t) ⌝ }
+    ensures { λ r. ⌜ Served (now (t .entry) .timer) Call.Next cycle (now (t .exit)) r ⌝ }
+{
+    let a = nexting(t.next, t.flags, t.timer.clock.latest.0, cycle);
+    t.timer.clock.latest.0 = a.latest;
+    a.reply
+}
+
+// Yields TIFR.
+#[no_mangle]
+pub extern "C" fn paddlemauve_tifr(t: &mut Held, cycle: u64) -> Reply
+    requires { ⌜ Kept (now t) ⌝ }
+    ensures { λ r. ⌜ Served (now (t .entry) .timer) Call.Tifr cycle (now (t .exit)) r ⌝ }
+{
+    let a = flagging(
+        t.timer.flags.tifr,
+        t.next,
+        t.flags,
+        t.timer.clock.latest.0,
+        cycle,
+    );
+    t.timer.clock.latest.0 = a.latest;
+    a.reply
+}
+
+// Ones written to TIFR clear its bits.
+#[no_mangle]
+pub extern "C" fn paddlemauve_clear(t: &mut Held, ones: u8, cycle: u64) -> Reply
+    requires { ⌜ Kept (now t) ⌝ }
+    ensures { λ r. ⌜ Served (now (t .entry) .timer) (Call.WriteTifr ones) cycle (now (t .exit)) r ⌝ }
+{
+    let a = clearing(
+        t.timer.flags.tifr,
+        t.next,
+        t.flags,
+        t.timer.clock.latest.0,
+        ones,
+        cycle,
+    );
+    t.timer.flags.tifr = a.tifr;
+    t.timer.clock.latest.0 = a.latest;
+    a.reply
+}
+
+// Yields the low byte of TCNTn as a program reads it: it fills TEMP in a wide timer.
+#[no_mangle]
+pub extern "C" fn paddlemauve_count_low(t: &mut Held, cycle: u64) -> Reply
+    requires { ⌜ Kept (now t) ⌝ }
+    ensures { λ r. ⌜ Served (now (t .entry) .timer) (countLow (now (t .entry) .timer)) cycle (now (t .exit)) r ⌝ }
+{
+    let a = counting(
+        t.timer.counter,
+        t.timer.clock,
+        t.timer.config.wide,
+        t.timer.registers.temp,
+        t.shift,
+        t.down,
+        t.next,
+        t.flags,
+        cycle,
+    );
+    t.timer.counter = a.counter;
+    t.timer.clock = a.clock;
+    t.timer.registers.temp = a.temp;
+    a.reply
+}
+
+// Yields the high byte of TCNTn, which is TEMP; refused with 4 where the timer is narrow.
+#[no_mangle]
+pub extern "C" fn paddlemauve_count_high(t: &mut Held, cycle: u64) -> Reply
+    requires { ⌜ Kept (now t) ⌝ }
+    ensures { λ r. ⌜ High (now (t .entry) .timer) cycle (now (t .exit)) r ⌝ }
+{
+    let a = temping(
+        t.timer.config.wide,
+        t.timer.registers.temp,
+        t.next,
+        t.flags,
+        t.timer.clock.latest.0,
+        cycle,
+    );
+    t.timer.clock.latest.0 = a.latest;
+    a.reply
 }

@@ -1,9 +1,11 @@
 // A list of register writes, for Rust and C.
 
-use crate::asked::Reply;
 use answers::Answer;
 use answers::Outcome;
 use counter::state::Timer;
+use held::calls::holding;
+use held::reply::Reply;
+use held::state::Held;
 use writes::Why;
 ghost use mathlib.Core.Path.{_≡_};
 ghost use Rattle.passage.specs.Passage.{ticks};
@@ -14,7 +16,7 @@ ghost use Rattle.shell.specs.Lists.{Ends};
 // The timer after a list, the items done, and in numbers why it ended, with the bytes written.
 #[repr(C)]
 pub struct Ended {
-    pub timer: Timer,
+    pub timer: Held,
     pub done: u64,
     pub reply: Reply,
 }
@@ -41,13 +43,16 @@ pub extern "C" fn paddlemauve_writes(t: Timer, list: &[u8], area: &mut [u8]) -> 
     let written = w.written;
     let why = w.why;
     let answer = answer_of(why);
-    Ended {
+    let c = holding(Outcome {
+        answer,
         timer,
+        written,
+    });
+    let held = c.held;
+    let reply = c.reply;
+    Ended {
+        timer: held,
         done: w.done as u64,
-        reply: Reply::of(Outcome {
-            answer,
-            timer,
-            written,
-        }),
+        reply,
     }
 }

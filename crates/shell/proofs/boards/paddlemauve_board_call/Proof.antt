@@ -106,7 +106,7 @@ board-is s v is = LL.owed D.the-type D′.the-laws s (v ∷ []) is .0
 reply-is : (s : Moved) (v : Val) → Is D.the-row s (v ∷ []) → Is E.the-row (s .reply) (reply-of (s .reply) ∷ [])
 reply-is s v is = LL.owed D.the-type D′.the-laws s (v ∷ []) is .1 .0
 
--- values are of their types
+-- values are of their types: said apart, since a walk that computes these types of a board passes antt's step limit
 module _ {M : Type 1} (𝓤 : URA M) (H : Heap 𝓤) (A : Atoms 𝓤) (W : Given 𝓤 H A) where
   board-typed : (h : Board) → Is T.the-row h (board-of h ∷ []) → Typed (T′.mir ∷ []) (board-of h ∷ [])
   board-typed h is = LL.lawful T.the-type T′.the-laws 𝓤 H A W .typed h _ is

@@ -4,8 +4,11 @@ use borrow.Author.Needs.{needs}
 use Rattle.shell.proofs.exports.paddlemauve_start.Statement.{statement}
 use Rattle.shell.proofs.exports.paddlemauve_start.Tie as tie
 
+held-of-requires : tie.Need-held-of-requires
+held-of-requires c κs = c .before .new .ensures .1
+
 returns : tie.Need-returns
-returns c = begins _ _ _ (c .before .new .ensures .0) (c .before .new .ensures .1) refl refl
+returns c = begins _ _ _ (c .before .before .new .ensures .0) refl (c .held-of .ensures)
 
 pub paddlemauve-start-spec : {M : Type 1} → statement M
-paddlemauve-start-spec = tie.close (tie.spec (λ c κs. search needs) returns)
+paddlemauve-start-spec = tie.close (tie.spec (λ c κs. search needs) held-of-requires returns)

@@ -1,6 +1,6 @@
 use borrow.Author.Needs.{needs}
-use Rattle.shell.proofs.asked.Reply.of.Statement.{statement}
-use Rattle.shell.proofs.asked.Reply.of.Tie as tie
+use Rattle.held.proofs.reply.Reply.of.Statement.{statement}
+use Rattle.held.proofs.reply.Reply.of.Tie as tie
 
 returns : tie.Need-returns
 returns c = rw (c .new .ensures, c .before .before .answer .given .1)

@@ -1,0 +1,129 @@
+-- Each valid timer can be held: the shift of its divisor.
+use Prim.Native.Nat.{ℕ, zero, suc, _+_, _-_, _<_, _≤_, _^_}
+use native.Mathlib.Omega.{arith}
+use mathlib.Core.Path.{_≡_, refl, ap, _∙_, sym}
+use mathlib.Core.Bool.{Bool, true, false, cond}
+use mathlib.Core.Logic.{_⊎_, inl, inr, ⊎-elim}
+use lib.Dec.{eqb, leb}
+use lib.ListN.{getD}
+use Rattle.tick.proofs.Choices.{cond-le, cond-all}
+use Rattle.counter.specs.declared.state.Timer.{Timer}
+use Rattle.counter.specs.Modes.{csSync, csTimer2, divisorAt, divisorOf, runningOf}
+use Rattle.counter.specs.Modes.{modeOf, waveOf, prescalerOf}
+use Rattle.counter.proofs.Bounds.{valid-sound}
+use Rattle.tick.proofs.Bounds.{gap-max}
+use Rattle.wave.specs.Distance.{gap}
+use native.Mathlib.Nat.{div-le-self}
+use Rattle.counter.specs.Next.{nextAt, nextOf}
+use Rattle.counter.specs.Setting.{settingAt, settingOf, movingOf}
+use Rattle.counter.specs.Valid.{Valid}
+use Rattle.counter.proofs.Clocks.{running-divides, next-fits}
+use Rattle.tick.specs.declared.distance.Distance.{Distance}
+use Rattle.tick.specs.Distance.{distanceOf}
+use Rattle.tick.specs.Skip.{distance}
+use Rattle.time.specs.declared.units.Prescaler.{Prescaler}
+use Rattle.time.specs.declared.units.Ticks.{Ticks}
+use Rattle.time.specs.Units.{ticksAt, cycleAt}
+use Rattle.held.specs.Held.{codeOf, flagsIn, never, shiftAt}
+
+abbrev Powered : ℕ → Type 0
+Powered d = (d ≡ 0) ⊎ (d ≡ 2 ^ shiftAt d true)
+
+-- a clock that is a divisor, else 0
+abbrev whole : ℕ → ℕ
+whole d = cond (leb d 1024) d 0
+
+sync-powered : (s : ℕ) → Powered (whole (getD csSync s 0))
+unfolding shiftAt
+sync-powered zero = inl refl
+sync-powered (suc zero) = inr refl
+sync-powered (suc (suc zero)) = inr refl
+sync-powered (suc (suc (suc zero))) = inr refl
+sync-powered (suc (suc (suc (suc zero)))) = inr refl
+sync-powered (suc (suc (suc (suc (suc zero))))) = inr refl
+sync-powered (suc (suc (suc (suc (suc (suc zero)))))) = inl refl
+sync-powered (suc (suc (suc (suc (suc (suc (suc zero))))))) = inl refl
+sync-powered (suc (suc (suc (suc (suc (suc (suc (suc s)))))))) = inl refl
+
+timer2-powered : (s : ℕ) → Powered (whole (getD csTimer2 s 0))
+unfolding shiftAt
+timer2-powered zero = inl refl
+timer2-powered (suc zero) = inr refl
+timer2-powered (suc (suc zero)) = inr refl
+timer2-powered (suc (suc (suc zero))) = inr refl
+timer2-powered (suc (suc (suc (suc zero)))) = inr refl
+timer2-powered (suc (suc (suc (suc (suc zero))))) = inr refl
+timer2-powered (suc (suc (suc (suc (suc (suc zero)))))) = inr refl
+timer2-powered (suc (suc (suc (suc (suc (suc (suc zero))))))) = inr refl
+timer2-powered (suc (suc (suc (suc (suc (suc (suc (suc s)))))))) = inl refl
+
+powered : (clocks select : ℕ) → Powered (divisorAt clocks select)
+unfolding divisorAt
+powered clocks select = cond-all (λ d. Powered (whole d)) (eqb clocks 0) (sync-powered select) (timer2-powered select)
+
+pub shift-is : (t : Timer) {s : ℕ} → s ≡ shiftAt (divisorOf t) (runningOf t) → runningOf t ≡ true → divisorOf t ≡ 2 ^ s
+unfolding divisorOf
+shift-is t {s} q e = ⊎-elim (λ z. let l = running-divides t e in absurd (none z l)) (λ z. z ∙ rw (q, e) refl) (powered _ _)
+  where
+    none : divisorOf t ≡ 0 → 0 < divisorOf t → ⊥
+    none z l = omega arith
+
+pub shift-idle : (t : Timer) {s : ℕ} → s ≡ shiftAt (divisorOf t) (runningOf t) → runningOf t ≡ false → s ≡ 63
+unfolding shiftAt
+shift-idle t q e = q ∙ rw e refl
+
+shift-upto : (d : ℕ) (b : Bool) → shiftAt d b ≤ 63
+unfolding shiftAt
+shift-upto d true = cond-le (eqb d 8) (omega arith) (cond-le (eqb d 32) (omega arith) (cond-le (eqb d 64) (omega arith) (cond-le (eqb d 128) (omega arith) (cond-le (eqb d 256) (omega arith) (cond-le (eqb d 1024) (omega arith) (omega arith))))))
+shift-upto d false = omega arith
+
+pub shift-small : (d : ℕ) (b : Bool) → shiftAt d b < 64
+shift-small d b = let l = shift-upto d b in omega arith
+
+-- ---- the next event, sought once
+-- what was found of a timer that runs
+pub record Found (t : Timer) (p : Prescaler) (last : Ticks) (d : Distance) : Type 0 where
+  pub clock : p ≡ prescalerOf t
+  pub tick : last .0 ≡ ticksAt p (t .clock .sync .0)
+  pub ahead : d ≡ distanceOf (settingOf t) (movingOf t)
+
+module _ {t : Timer} {p : Prescaler} {last : Ticks} {d : Distance} (f : Found t p last d) (v : Valid t) where
+  found-at : cycleAt p (last .0 + d .ticks) ≡ nextAt t
+  unfolding nextAt settingAt
+  found-at = rw (f .tick, f .ahead, f .clock) refl
+
+  pub found-cycle : cycleAt p (last .0 + d .ticks) < 2 ^ 64
+  unfolding settingAt
+  found-cycle = rw (f .tick, f .ahead, f .clock) fits
+    where
+      fits : cycleAt (prescalerOf t) (ticksAt (prescalerOf t) (t .clock .sync .0) + distance (settingOf t .wave) (movingOf t)) < 2 ^ 64
+      fits = next-fits t v
+
+  pub found-tick : last .0 + d .ticks < 2 ^ 64
+  unfolding ticksAt settingAt
+  found-tick =
+      let b = gap-max (waveOf t (modeOf t)) (movingOf t) (valid-sound t v .steady) in
+      let k = div-le-self (t .clock .sync .0 - p .origin .0) (p .divisor) in
+      let e : d .ticks ≡ gap (waveOf t (modeOf t)) (t .counter) (t .ocr) + 1 = ap (λ (x : Distance). x .ticks) (f .ahead) in
+      let m = valid-sound t v .steady .most in
+      let l = f .tick in
+      let s = v .sync in
+      let n = v .latest in
+      omega arith
+
+  pub found-next : runningOf t ≡ true → {n : ℕ} → n ≡ cycleAt p (last .0 + d .ticks) → n ≡ codeOf (nextOf t)
+  unfolding codeOf nextOf
+  found-next r e = e ∙ found-at ∙ rw r refl
+
+  pub found-flags : runningOf t ≡ true → d .flags ≡ flagsIn (nextOf t)
+  unfolding flagsIn nextOf
+  found-flags r = rw (r, f .ahead) refl
+
+-- and of one that does not
+pub none-next : (t : Timer) → runningOf t ≡ false → never ≡ codeOf (nextOf t)
+unfolding codeOf nextOf
+none-next t r = rw r refl
+
+pub none-flags : (t : Timer) → runningOf t ≡ false → 0 ≡ flagsIn (nextOf t)
+unfolding flagsIn nextOf
+none-flags t r = rw r refl

@@ -1,0 +1,6 @@
+pub mod Laws
+pub mod Passes
+pub mod Holds
+pub mod Puts
+pub mod Answers
+pub mod Stills

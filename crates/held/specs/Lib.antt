@@ -1,0 +1,4 @@
+pub mod Held
+pub mod Reply
+pub mod Quick
+pub mod Laws
