@@ -1,7 +1,10 @@
 //! The board beside three timers of their own under the same calls: a million random orders. Answers, every byte of the
 //! areas, the timers whole, GTCCR, next events and the scheduler's earliest are compared after each.
 
+mod random;
+
 use paddlemauve::{Answer, Board, BoardOutcome, Call, Config, Id, Next, Order, Outcome, Refusal, Timer};
+use random::Rng;
 
 const ORDERS: u64 = 1_000_000;
 
@@ -11,7 +14,7 @@ const FILL: u8 = 0xa5;
 const IDS: [Id; 3] = [Id::Timer0, Id::Timer1, Id::Timer2];
 
 /// Addresses that are a timer's, GTCCR's, and nobody's.
-const ADDRESSES: [u16; 40] = [
+const ADDRESSES: [u64; 40] = [
     0x35, 0x36, 0x37, 0x43, 0x43, 0x43, 0x44, 0x45, 0x45, 0x45, 0x46, 0x47, 0x48, 0x6e, 0x6f, 0x70, 0x80, 0x81, 0x81,
     0x82, 0x84, 0x85, 0x86, 0x87, 0x88, 0x89, 0x8a, 0x8b, 0xb0, 0xb1, 0xb1, 0xb2, 0xb3, 0xb4, 0x00, 0x34, 0x49, 0x83,
     0xb5, 0x1ff,
@@ -132,52 +135,36 @@ fn refusal(timer: &mut Timer, calls: &[Call], cycle: u64) -> Option<Refusal> {
     })
 }
 
-/// SplitMix64.
-struct Random(u64);
-
-impl Random {
-    fn below(&mut self, n: u64) -> u64 {
-        self.0 = self.0.wrapping_add(0x9e37_79b9_7f4a_7c15);
-        let z = (self.0 ^ self.0 >> 30).wrapping_mul(0xbf58_476d_1ce4_e5b9);
-        let z = (z ^ z >> 27).wrapping_mul(0x94d0_49bb_1331_11eb);
-        (z ^ z >> 31) % n
+fn order(rng: &mut Rng) -> Order {
+    let id = IDS[rng.below(3) as usize];
+    let level = rng.pick(&[0, 1, 0, 1, 0, 1, 0, 2]) as u8;
+    let address = rng.pick(&ADDRESSES) as u16;
+    let byte = rng.below(256) as u8;
+    match rng.below(160) {
+        0..=54 => Order::Advance(id),
+        55..=58 => Order::Next(id),
+        59 => Order::Reset(id),
+        60..=67 => Order::Edge { id, pin: rng.pick(&[6, 11, 14, 15]) as u8, level },
+        68..=71 => Order::Route(id, level),
+        72..=75 => Order::Output(id, level),
+        76..=99 => Order::Read(address),
+        100..=115 => Order::Peek(address),
+        116..=149 => Order::Write(address, byte),
+        150 => Order::Sleep(byte % 9),
+        151..=156 => Order::Wake,
+        _ => Order::Reduce(byte & rng.pick(&[0, 0, 8, 0x20, 0x40, 0x68]) as u8),
     }
+}
 
-    fn of<T: Copy>(&mut self, all: &[T]) -> T {
-        all[self.below(all.len() as u64) as usize]
-    }
-
-    fn order(&mut self) -> Order {
-        let id = self.of(&IDS);
-        let level = self.of(&[0, 1, 0, 1, 0, 1, 0, 2]);
-        let address = self.of(&ADDRESSES);
-        let byte = self.below(256) as u8;
-        match self.below(160) {
-            0..=54 => Order::Advance(id),
-            55..=58 => Order::Next(id),
-            59 => Order::Reset(id),
-            60..=67 => Order::Edge { id, pin: self.of(&[6, 11, 14, 15]), level },
-            68..=71 => Order::Route(id, level),
-            72..=75 => Order::Output(id, level),
-            76..=99 => Order::Read(address),
-            100..=115 => Order::Peek(address),
-            116..=149 => Order::Write(address, byte),
-            150 => Order::Sleep(byte % 9),
-            151..=156 => Order::Wake,
-            _ => Order::Reduce(byte & self.of(&[0, 0, 8, 0x20, 0x40, 0x68])),
-        }
-    }
-
-    /// A cycle behind the last one: mostly the same or a little on, seldom before it or past 2^62 − 1.
-    fn cycle(&mut self, last: u64) -> u64 {
-        match self.below(64) {
-            0 => last.saturating_sub(self.below(3)),
-            1 if self.below(100) == 0 => 1 << 62,
-            1..=20 => last,
-            21..=50 => last + self.below(40),
-            51..=62 => last + self.below(3_000),
-            _ => last + self.below(200_000),
-        }
+/// A cycle behind the last one: mostly the same or a little on, seldom before it or past 2^62 − 1.
+fn cycle_after(rng: &mut Rng, last: u64) -> u64 {
+    match rng.below(64) {
+        0 => last.saturating_sub(rng.below(3)),
+        1 if rng.below(100) == 0 => 1 << 62,
+        1..=20 => last,
+        21..=50 => last + rng.below(40),
+        51..=62 => last + rng.below(3_000),
+        _ => last + rng.below(200_000),
     }
 }
 
@@ -222,14 +209,14 @@ fn same(board: &mut Board, three: &mut Three, order: Order, cycle: u64, size: us
 
 /// Orders on a fresh board and on three fresh timers.
 fn compare(seed: u64, orders: u64, figures: &mut Figures) {
-    let mut random = Random(seed);
+    let mut rng = Rng(seed);
     let mut board = Board::new();
     let mut three = Three::new();
     let mut last = 0;
     for _ in 0..orders {
-        let cycle = random.cycle(last);
-        let order = random.order();
-        let size = random.of(&[0, 9, 10, 20, 30, 110, 110, 110, 110, 200]);
+        let cycle = cycle_after(&mut rng, last);
+        let order = order(&mut rng);
+        let size = rng.pick(&[0, 9, 10, 20, 30, 110, 110, 110, 110, 200]) as usize;
         let outcome = same(&mut board, &mut three, order, cycle, size);
         for (next, timer) in board.nexts().iter().zip(&three.timers) {
             match announced(timer) {
