@@ -1,5 +1,5 @@
 -- What is proved of pages beside the functions, byte by byte.
-use Prim.Native.Nat.{ℕ, suc, _+_, _≤_, _<_}
+use Prim.Native.Nat.{ℕ, suc, _+_, _≤_}
 use native.Mathlib.Omega.{arith}
 use native.Mathlib.Decide.{decLe}
 use native.Mathlib.Numerals.{add-one}
@@ -10,7 +10,7 @@ use mathlib.Core.List.{List, [], _∷_, _++_, append-assoc, append-nil}
 use borrow.Author.Tests.{lt-ltb, le-ltb, ltb-true}
 use lib.Dec.{ltb}
 use lib.ListN.{length, take, set, length-set}
-use lib.Seq.{sets, take-all, take-suc-set, append-snoc}
+use lib.Seq.{take-all, take-suc-set, append-snoc}
 use Rattle.page.specs.Page.{Sheet, sheet, size, put, puts, handed}
 use Rattle.page.specs.Claims.{NothingLost, Fits}
 

@@ -1,10 +1,8 @@
 -- `page::number` meets its contract: the digits are put from a line of their own.
 use Rattle.page.proofs.Sheets.{then, number-length}
 use Rattle.figures.proofs.Writing.{wrote-read}
-use lib.ListN.{length, length-take}
-use mathlib.Core.Path.{_≡_, sym}
+use lib.ListN.{length-take}
 use native.Mathlib.Omega.{arith}
-use Prim.Native.Nat.{_+_, _<_, _^_, _≤_}
 use borrow.Author.Needs.{needs}
 use Rattle.page.proofs.number.Statement.{statement}
 use Rattle.page.proofs.number.Tie as tie

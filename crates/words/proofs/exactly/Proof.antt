@@ -1,9 +1,6 @@
 -- `words::exactly` meets its contract: the words that are left are counted.
-use native.Mathlib.Omega.{arith}
-use mathlib.Core.Path.{_≡_, sym, ap, _∙_}
 use borrow.Author.Tests.{lt-ltb, le-ltb}
-use lib.ListN.{length, drop}
-use Rattle.words.specs.Words.{countWhy, words}
+use Rattle.words.specs.Words.{countWhy}
 use borrow.Author.Needs.{needs}
 use Rattle.words.proofs.exactly.Statement.{statement}
 use Rattle.words.proofs.exactly.Tie as tie

@@ -1,10 +1,10 @@
 -- `words::longer` meets its contract: a number with one more digit is at most the most where the number is at most what the
 -- digit leaves of it, over the radix.
-use Prim.Native.Nat.{ℕ, _+_, _*_, _-_, _/_, _≤_, _<_}
+use Prim.Native.Nat.{ℕ, _*_, _-_, _/_, _≤_, _<_}
 use borrow.Author.Needs.{needs}
 use native.Mathlib.Nat.{le-div-iff-mul-le, div-lt-iff-lt-mul}
 use native.Mathlib.Omega.{arith}
-use mathlib.Core.Path.{_≡_, sym, _∙_}
+use mathlib.Core.Path.{sym, _∙_}
 use Rattle.words.proofs.Numerals.{longer-stopped, longer-over, longer-fits}
 use Rattle.words.proofs.longer.Statement.{statement}
 use Rattle.words.proofs.longer.Tie as tie

@@ -1,7 +1,6 @@
 -- `words::next` meets its contract: the word between the next place that is no space and the next space is read.
 use native.Mathlib.Omega.{arith}
-use mathlib.Core.Path.{_≡_, sym, ap, _∙_}
-use Rattle.words.specs.Numbers.{nextOf, nothingOf}
+use mathlib.Core.Path.{sym, _∙_}
 use Rattle.words.proofs.Numerals.{next-stopped, next-read}
 use borrow.Author.Needs.{needs}
 use Rattle.words.proofs.next.Statement.{statement}

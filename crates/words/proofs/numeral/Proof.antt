@@ -1,5 +1,5 @@
 -- `words::numeral` meets its contract. The loop's invariant: the bytes passed are digits, and the number is what they make, or too large.
-use Prim.Native.Nat.{ℕ, _+_, _-_, _≤_, _<_}
+use Prim.Native.Nat.{_-_, _≤_}
 use mathlib.Core.Path.{_≡_, refl, sym, ap, _∙_}
 use borrow.Author.Tests.{le-leb}
 use lib.Seq.{take-all}
@@ -8,7 +8,7 @@ use mathlib.Core.Bool.{true}
 use native.Mathlib.Omega.{arith}
 use borrow.Author.Needs.{needs}
 use lib.ListN.{length, take, getD}
-use Rattle.words.specs.Numbers.{allDigits, extended, limited, longerOf, numeralOf, digitOf}
+use Rattle.words.specs.Numbers.{allDigits, extended, limited, numeralOf, digitOf}
 use Rattle.words.proofs.numeral.Statement.{statement}
 use Rattle.words.proofs.numeral.Tie as tie
 

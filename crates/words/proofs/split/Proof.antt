@@ -1,10 +1,10 @@
 -- `words::split` meets its contract: the key is what stands before the first sign.
 use Prim.Native.Nat.{_-_}
 use native.Mathlib.Omega.{arith}
-use mathlib.Core.Path.{_≡_, sym, ap, _∙_}
+use mathlib.Core.Path.{_≡_}
 use borrow.Author.Tests.{eq-eqb, ne-eqb}
-use lib.ListN.{length, take}
-use Rattle.words.specs.Words.{splitAt, placeOf}
+use lib.ListN.{length}
+use Rattle.words.specs.Words.{splitAt}
 use borrow.Author.Needs.{needs}
 use Rattle.words.proofs.split.Statement.{statement}
 use Rattle.words.proofs.split.Tie as tie

@@ -3,7 +3,7 @@ use mathlib.Core.Path.{_≡_, sym, subst}
 use mathlib.Core.Bool.{true, not}
 use borrow.Author.Needs.{needs}
 use lib.Dec.{T}
-use lib.Ieee.{Float, nan, inf, fin, eq, ne, isNan, toBits, binary64}
+use lib.Ieee.{Float, nan, inf, fin, eq, ne, isNan, toBits}
 use lib.Ieee.Compare.{differs-from-itself}
 use Rattle.words.proofs.volts.pattern.Statement.{statement}
 use Rattle.words.proofs.volts.pattern.Tie as tie
