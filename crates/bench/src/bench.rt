@@ -2,6 +2,7 @@
 
 use crate::board_asked::Asked;
 use crate::record_lines::NO_FILE;
+use crate::record_lines::SCRIPT;
 use config::Config;
 use counter::state::Timer;
 use door::Set;
@@ -21,9 +22,9 @@ pub struct Doors {
     pub set: Set,
 }
 
-// The timer counts once a configuration was accepted, the watchdog and the board, which stands beside, once there is a new one.
-// asked is what a line orders of the board, items is how many the list holds, file the
-// descriptor that records go to. line is the line's number, held its bytes so far, at the page's.
+// The timer counts once a configuration was accepted, the watchdog and the board, which stands beside, once there is a new one. asked is what a
+// line orders of the board, items how many the list holds, file the descriptor that records go to, whose these are. line is the line's number, held
+// its bytes so far, at the page's.
 pub struct Bench {
     pub ready: bool,
     pub timer: Timer,
@@ -36,6 +37,7 @@ pub struct Bench {
     pub ring: Ring,
     pub items: usize,
     pub file: i32,
+    pub whose: u64,
     pub line: u64,
     pub held: usize,
     pub at: usize,
@@ -63,6 +65,7 @@ impl Bench {
             ring: Ring::new(),
             items: 0,
             file: NO_FILE,
+            whose: SCRIPT,
             line: 0,
             held: 0,
             at: 0,
@@ -103,5 +106,14 @@ impl Bench {
     {
         let at = unreadable(page, self.at, self.line, why);
         self.answered(page, at)
+    }
+
+    // The descriptor that the records of a timer go to; none where another's are kept.
+    pub fn file_of(self, timer: u64) -> i32 {
+        if self.whose == timer {
+            self.file
+        } else {
+            NO_FILE
+        }
     }
 }

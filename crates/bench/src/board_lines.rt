@@ -9,6 +9,9 @@ use crate::board_shown::board_answer;
 use crate::board_shown::board_state;
 use crate::call_lines::FILL;
 use crate::call_lines::changed;
+use crate::record_lines::SCRIPT;
+use crate::record_lines::begun;
+use crate::record_lines::kept;
 use board::call;
 use board::outcome::Outcome;
 use board::state::Board;
@@ -44,7 +47,7 @@ fn spoilt(area: &[u8], written: usize) -> bool {
     changed(area, written) < area.len()
 }
 
-// Puts the answer, or that an area changed beyond what was written.
+// Puts the answer, or that an area changed beyond what was written, or that the file did not take the records.
 fn told(b: Bench, o: Outcome, zero: &[u8], one: &[u8], two: &[u8], page: &mut Page) -> Bench
     requires { ⌜ (Sound b) × Valid (o .board) ⌝ }
     ensures { λ r. ⌜ Sound r ⌝ }
@@ -53,8 +56,14 @@ fn told(b: Bench, o: Outcome, zero: &[u8], one: &[u8], two: &[u8], page: &mut Pa
     if spoilt(zero, w.zero) | spoilt(one, w.one) | spoilt(two, w.two) {
         return b.says(page, b"area changed");
     }
-    let at = board_answer(page, b.at, o, zero, one, two);
-    b.answered(page, at)
+    if kept(b.file_of(0), zero, w.zero)
+        & kept(b.file_of(1), one, w.one)
+        & kept(b.file_of(2), two, w.two)
+    {
+        let at = board_answer(page, b.at, o, zero, one, two);
+        return b.answered(page, at);
+    }
+    b.says(page, b"door.log not written")
 }
 
 // Orders the board on three areas.
@@ -95,12 +104,21 @@ fn called(d: Desk, asked: Asked, page: &mut Page) -> Desk
     )
 }
 
-// Makes a fresh board.
-fn begun(b: Bench, page: &mut Page) -> Desk
-    requires { ⌜ Sound b ⌝ }
+// Makes a fresh board, with a fresh file where one of its timers is recorded.
+fn fresh(d: Desk, page: &mut Page) -> Desk
+    requires { ⌜ Whole d ⌝ }
     ensures { λ r. ⌜ Whole r ⌝ }
 {
-    let mut b = b;
+    let mut b = d.bench;
+    let file = begun(b.file, b.whose < SCRIPT);
+    if file.why != FINE {
+        let board = d.board;
+        return Desk {
+            bench: b.unreadable(page, file.why),
+            board,
+        };
+    }
+    b.file = file.fd;
     b.boarded = true;
     Desk {
         bench: b.says(page, b"ok config"),
@@ -132,7 +150,7 @@ pub fn ordered(d: Desk, page: &mut Page) -> Desk
     let asked = b.asked;
     b.asked = Asked::nothing(FINE);
     if asked.name == NEW {
-        return begun(b, page);
+        return fresh(Desk { bench: b, board }, page);
     }
     if !b.boarded {
         return Desk {

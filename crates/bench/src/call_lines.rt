@@ -1,6 +1,7 @@
 // Lines that call the timer.
 
 use crate::bench::Bench;
+use crate::record_lines::SCRIPT;
 use crate::record_lines::kept;
 use answers::Outcome;
 use display::answer::answer;
@@ -153,7 +154,7 @@ fn told(bench: Bench, o: Outcome, area: &[u8], page: &mut Page) -> Bench
     let t = o.timer;
     let mut b = bench;
     b.timer = t;
-    let c = checked(page, b.at, b.file, area, o.written);
+    let c = checked(page, b.at, b.file_of(SCRIPT), area, o.written);
     if !c.fine {
         return b.answered(page, c.at);
     }

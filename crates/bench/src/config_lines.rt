@@ -1,6 +1,7 @@
 // Lines that make a fresh timer.
 
 use crate::bench::Bench;
+use crate::record_lines::SCRIPT;
 use crate::record_lines::begun;
 use counter::state::Timer;
 use page::Page;
@@ -22,7 +23,7 @@ fn configured(b: Bench, given: Given, page: &mut Page) -> Bench
     if started.number != 0 {
         return b.says(page, b"refused 1");
     }
-    let file = begun(b.file);
+    let file = begun(b.file, b.whose == SCRIPT);
     if file.why != FINE {
         return b.unreadable(page, file.why);
     }

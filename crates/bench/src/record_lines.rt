@@ -1,14 +1,20 @@
-// The file that the records of a script's timer go to, for the dump.
+// The file that the records of one timer go to, for the dump: the script's timer, or one of the board's.
 
 use crate::bench::Bench;
 use page::Page;
 use words::FINE;
 use words::NOT_OPENED;
+use words::Taken;
+use words::decimal;
 use words::exactly;
+use words::skip;
 ghost use Rattle.bench.specs.Bench.{Sound};
 
 // No descriptor: records go nowhere.
 pub const NO_FILE: i32 = -1;
+
+// The script's timer, behind the ids of the board's.
+pub const SCRIPT: u64 = 3;
 
 // A descriptor, and why there is none.
 pub struct File {
@@ -34,9 +40,9 @@ fn anew(fd: i32) -> File {
     }
 }
 
-// The file for a fresh timer: begun anew where records are kept.
-pub fn begun(fd: i32) -> File {
-    if 0 <= fd {
+// The file for a fresh timer, or a fresh board: begun anew where its records are kept.
+pub fn begun(fd: i32, own: bool) -> File {
+    if own & (0 <= fd) {
         return anew(fd);
     }
     File { fd, why: FINE }
@@ -53,12 +59,24 @@ pub fn kept(fd: i32, area: &[u8], written: usize) -> bool {
     true
 }
 
+// Whose records a line asks for.
+fn whose(line: &[u8], at: usize) -> Taken {
+    if skip(line, at) == line.len() {
+        return Taken {
+            value: SCRIPT,
+            next: exactly(line, at, 0),
+        };
+    }
+    decimal(line, exactly(line, at, 1), 2)
+}
+
 // Answers a record line from the place after its name.
 pub fn record_line(b: Bench, line: &[u8], at: usize, page: &mut Page) -> Bench
     requires { ⌜ Sound b ⌝ }
     ensures { λ r. ⌜ Sound r ⌝ }
 {
-    let end = exactly(line, at, 0);
+    let whose = whose(line, at);
+    let end = whose.next;
     if end.why != FINE {
         return b.unreadable(page, end.why);
     }
@@ -68,5 +86,6 @@ pub fn record_line(b: Bench, line: &[u8], at: usize, page: &mut Page) -> Bench
     }
     let mut b = b;
     b.file = file.fd;
+    b.whose = whose.value;
     b.says(page, b"ok recording")
 }

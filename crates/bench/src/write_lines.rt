@@ -4,6 +4,7 @@ use crate::bench::Bench;
 use crate::call_lines::FILL;
 use crate::call_lines::checked;
 use crate::digits::bytes;
+use crate::record_lines::SCRIPT;
 use display::answer::records;
 use page::Page;
 use page::number;
@@ -125,7 +126,7 @@ fn told(bench: Bench, w: Written, area: &[u8], page: &mut Page) -> Bench
     let t = w.timer;
     let mut b = bench;
     b.timer = t;
-    let c = checked(page, b.at, b.file, area, w.written);
+    let c = checked(page, b.at, b.file_of(SCRIPT), area, w.written);
     if !c.fine {
         return b.answered(page, c.at);
     }

@@ -6,7 +6,10 @@ use super::figures::{listed, Figures};
 use super::program::Program;
 use super::{clash, judged, report, Clash};
 use crate::generate::board::script;
+use crate::judge::{Follow, Judge};
 use crate::plain::bends::Bend;
+use crate::script::play::RECORDED;
+use crate::script::Play;
 
 /// Board lines of one script, and scripts of one input.
 const LINES: usize = 300;
@@ -77,6 +80,7 @@ pub fn run(program: &Program, wanted: usize, first: u64) -> Result<(), String> {
     let mut covered = Covered::default();
     let mut seed = first;
     while covered.calls < wanted {
+        recorded(program, seed)?;
         let lines: Vec<String> = (seed..seed + SCRIPTS).flat_map(|seed| script(seed, LINES)).collect();
         let answers = judged(&lines, &mut Figures::default());
         agrees(&lines, &answers, "plain", |lines, judged| clash(lines, judged, None))?;
@@ -86,6 +90,18 @@ pub fn run(program: &Program, wanted: usize, first: u64) -> Result<(), String> {
     }
     covered.print(first, seed - 1);
     Ok(())
+}
+
+/// The script of a seed with one of its timers recorded: an error where the program keeps other records than the judge.
+fn recorded(program: &Program, seed: u64) -> Result<(), String> {
+    let mut lines = script(seed, LINES);
+    lines.insert(lines.len() / 2, format!("record {}", seed % 3));
+    let mut play = Play::new(Judge::new(Follow::Sheet));
+    lines.iter().for_each(|line| drop(play.answer(line.as_bytes())));
+    match program.recorded(&lines)? == play.recorded {
+        true => Ok(()),
+        false => Err(format!("seed {seed}: not what {RECORDED} holds with record {} half way", seed % 3)),
+    }
 }
 
 /// After how many calls a bend of the plain board is noticed.

@@ -28,7 +28,7 @@ const ENDS: [&[u8]; 13] = [
     b"\xff\xfe\nstate \xc3\x28\n#\xff\nstate",
     b"sched at 1 1 5\nsched pop 00000000000000000000000000000000005",
     b"record",
-    b"preset m328p.timer0\nwrite 45 1 0 0\nadvance 1 30\nrecord\nadvance 256 110\nwtimsk 1 256 0\nwrites 110 1180C0000000000001ff\nconfig id=1\nrecord 1",
+    b"preset m328p.timer0\nwrite 45 1 0 0\nadvance 1 30\nrecord\nadvance 256 110\nwtimsk 1 256 0\nwrites 110 1180C0000000000001ff\nconfig id=1\nrecord 3",
 ];
 
 /// A program that answers a script on its standard input, and the folder for what it reads and writes.
@@ -82,6 +82,12 @@ impl Program {
             true => Ok(ran.wrote),
             false => Err(format!("{} ends with {}", self.path.display(), ran.status)),
         }
+    }
+
+    /// What it keeps of a script in door.log.
+    pub fn recorded(&self, lines: &[String]) -> Result<Option<Vec<u8>>, String> {
+        let script: String = lines.iter().map(|line| format!("{line}\n")).collect();
+        self.run(script.as_bytes()).map(|ran| ran.recorded)
     }
 
     /// The time that a batch took; an error where its answers are not the judge's.

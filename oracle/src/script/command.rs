@@ -56,7 +56,7 @@ pub enum Command {
     Item(Item),
     Door(DoorLine),
     Log(LogLine),
-    Record,
+    Record(Option<usize>),
 }
 
 /// The names of the calls, with how many words each has between its name and its cycle.
@@ -102,7 +102,8 @@ impl Command {
             "item" => Item::read(rest).map(Self::Item),
             "door" => DoorLine::read(rest).map(Self::Door),
             "log" => LogLine::read(rest).map(Self::Log),
-            "record" => exactly(rest, 0).map(|()| Self::Record),
+            "record" if rest.is_empty() => Ok(Self::Record(None)),
+            "record" => exactly(rest, 1).and_then(|()| words::timer(rest[0])).map(|timer| Self::Record(Some(timer))),
             name => {
                 let (_, arguments) = CALLS.iter().find(|c| c.0 == name).ok_or(Why::UnknownCommand)?;
                 exactly(rest, arguments + 2)?;

@@ -47,6 +47,8 @@ pub struct Play<S> {
     items: Items,
     /// What door.log holds, once records are kept.
     pub recorded: Option<Vec<u8>>,
+    /// The timer of the board that these are of; else the script's.
+    whose: Option<usize>,
     lines: usize,
 }
 
@@ -59,6 +61,7 @@ impl<S: Side> Play<S> {
             log: Log::default(),
             items: Items::default(),
             recorded: None,
+            whose: None,
             lines: 0,
         }
     }
@@ -92,8 +95,9 @@ impl<S: Side> Play<S> {
             Command::Item(item) => self.items.add(*item)?,
             Command::Door(line) => self.doors.answer(*line),
             Command::Log(line) => self.log.answer(*line),
-            Command::Record => {
+            Command::Record(whose) => {
                 self.recorded = Some(Vec::new());
+                self.whose = *whose;
                 "ok recording".into()
             }
         })
@@ -102,7 +106,7 @@ impl<S: Side> Play<S> {
     fn configure(&mut self, config: &Config) -> String {
         let answer = self.side.configure(config);
         if answer == Answer::Config {
-            self.recorded.as_mut().map(Vec::clear);
+            self.record_anew(None);
         }
         answer.line(&[])
     }
@@ -130,16 +134,29 @@ impl<S: Side> Play<S> {
         if let Some(i) = area[bytes..].iter().position(|&b| b != FILL) {
             return format!("area changed at {}", bytes + i);
         }
-        if let Some(recorded) = &mut self.recorded {
-            recorded.extend(&area[..bytes]);
-        }
+        self.record(None, &area[..bytes]);
         answer
+    }
+
+    /// Keeps records where those of this timer are kept.
+    fn record(&mut self, whose: Option<usize>, bytes: &[u8]) {
+        if let Some(recorded) = self.recorded.as_mut().filter(|_| self.whose == whose) {
+            recorded.extend(bytes);
+        }
+    }
+
+    /// A fresh timer, or a fresh board.
+    fn record_anew(&mut self, whose: Option<usize>) {
+        if self.whose.is_some() == whose.is_some() {
+            self.recorded.as_mut().map(Vec::clear);
+        }
     }
 
     fn board(&mut self, line: BoardLine) -> String {
         let answer = match line {
             BoardLine::New => {
                 self.side.new_board();
+                self.record_anew(Some(0));
                 Some(Answer::Config.line(&[]))
             }
             BoardLine::State => self.side.board_state().map(|board| board.to_string()),
@@ -152,7 +169,11 @@ impl<S: Side> Play<S> {
         let mut areas = [(); 3].map(|()| vec![FILL; size]);
         let told = self.side.order(order, cycle, &mut areas)?;
         let changed = |i: usize| areas[i].iter().skip(told.bytes[i]).any(|&b| b != FILL);
-        Some(if (0..3).any(changed) { "area changed".into() } else { told.line(&areas) })
+        if (0..3).any(changed) {
+            return Some("area changed".into());
+        }
+        (0..3).for_each(|i| self.record(Some(i), &areas[i][..told.bytes[i]]));
+        Some(told.line(&areas))
     }
 
     fn wdt(&mut self, wdt: Wdt) -> String {
