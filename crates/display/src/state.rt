@@ -10,9 +10,13 @@ use page::number;
 use page::register;
 use page::text;
 ghost use Rattle.counter.specs.Valid.{Valid};
+ghost use Rattle.page.specs.Page.{Puts};
+ghost use Rattle.display.specs.States.{comparedOf, threeOf, drivenOf, drivesOf, levelsOf, countOf, countsOf, outputsOf, linesOf, flagsOf, haltsOf, clockOf, stateOf, distanceText};
 
 // Puts a label and a compare's value, `-` where it is absent.
-fn compared(page: &mut Page, from: usize, label: &[u8], c: Compare, value: u32) -> usize {
+fn compared(page: &mut Page, from: usize, label: &[u8], c: Compare, value: u32) -> usize
+    ensures { λ r. ⌜ Puts (now (page .entry)) from (now (page .exit)) r (comparedOf (now (label .entry)) c value) ⌝ }
+{
     if c.present {
         return number(page, from, label, value as u64);
     }
@@ -21,7 +25,9 @@ fn compared(page: &mut Page, from: usize, label: &[u8], c: Compare, value: u32) 
 }
 
 // Puts a label and the values of the three compares.
-fn three(page: &mut Page, from: usize, label: &[u8], config: Config, values: [u32; 3]) -> usize {
+fn three(page: &mut Page, from: usize, label: &[u8], config: Config, values: [u32; 3]) -> usize
+    ensures { λ r. ⌜ Puts (now (page .entry)) from (now (page .exit)) r (threeOf (now (label .entry)) config values) ⌝ }
+{
     let a = config.a;
     let b = config.b;
     let c = config.c;
@@ -31,7 +37,9 @@ fn three(page: &mut Page, from: usize, label: &[u8], config: Config, values: [u3
 }
 
 // Puts a label and a channel's drive, `-` where it has no pin.
-fn driven(page: &mut Page, from: usize, label: &[u8], c: Compare, enable: u8, value: u8) -> usize {
+fn driven(page: &mut Page, from: usize, label: &[u8], c: Compare, enable: u8, value: u8) -> usize
+    ensures { λ r. ⌜ Puts (now (page .entry)) from (now (page .exit)) r (drivenOf (now (label .entry)) c enable value) ⌝ }
+{
     let wire = c.wire;
     if wire.present {
         let at = number(page, from, label, enable as u64);
@@ -42,7 +50,9 @@ fn driven(page: &mut Page, from: usize, label: &[u8], c: Compare, enable: u8, va
 }
 
 // Puts the drives of the three channels.
-fn drives(page: &mut Page, from: usize, t: Timer) -> usize {
+fn drives(page: &mut Page, from: usize, t: Timer) -> usize
+    ensures { λ r. ⌜ Puts (now (page .entry)) from (now (page .exit)) r (drivesOf t) ⌝ }
+{
     let config = t.config;
     let a = config.a;
     let b = config.b;
@@ -56,14 +66,18 @@ fn drives(page: &mut Page, from: usize, t: Timer) -> usize {
 }
 
 // Puts the three output levels.
-fn levels(page: &mut Page, from: usize, oc: [u8; 3]) -> usize {
+fn levels(page: &mut Page, from: usize, oc: [u8; 3]) -> usize
+    ensures { λ r. ⌜ Puts (now (page .entry)) from (now (page .exit)) r (levelsOf oc) ⌝ }
+{
     let at = number(page, from, b" oc=", oc[0] as u64);
     let at = number(page, at, b",", oc[1] as u64);
     number(page, at, b",", oc[2] as u64)
 }
 
 // Puts the counter's count and direction.
-fn count(page: &mut Page, from: usize, t: Timer) -> usize {
+fn count(page: &mut Page, from: usize, t: Timer) -> usize
+    ensures { λ r. ⌜ Puts (now (page .entry)) from (now (page .exit)) r (countOf t) ⌝ }
+{
     let counter = t.counter;
     let at = number(page, from, b"state count=", counter.count as u64);
     if counter.direction < 0 {
@@ -74,7 +88,9 @@ fn count(page: &mut Page, from: usize, t: Timer) -> usize {
 }
 
 // Puts the counter, the compares, ICR and TEMP.
-fn counts(page: &mut Page, from: usize, t: Timer) -> usize {
+fn counts(page: &mut Page, from: usize, t: Timer) -> usize
+    ensures { λ r. ⌜ Puts (now (page .entry)) from (now (page .exit)) r (countsOf t) ⌝ }
+{
     let config = t.config;
     let registers = t.registers;
     let ocr = t.ocr;
@@ -87,7 +103,9 @@ fn counts(page: &mut Page, from: usize, t: Timer) -> usize {
 }
 
 // Puts the outputs, the block and the control registers.
-fn outputs(page: &mut Page, from: usize, t: Timer) -> usize {
+fn outputs(page: &mut Page, from: usize, t: Timer) -> usize
+    ensures { λ r. ⌜ Puts (now (page .entry)) from (now (page .exit)) r (outputsOf t) ⌝ }
+{
     let counter = t.counter;
     let registers = t.registers;
     let oc = t.oc;
@@ -99,7 +117,9 @@ fn outputs(page: &mut Page, from: usize, t: Timer) -> usize {
 }
 
 // Puts the request lines overflow, A, B, capture and C.
-fn lines(page: &mut Page, from: usize, config: Config, active: u8) -> usize {
+fn lines(page: &mut Page, from: usize, config: Config, active: u8) -> usize
+    ensures { λ r. ⌜ Puts (now (page .entry)) from (now (page .exit)) r (linesOf config active) ⌝ }
+{
     let a = config.a;
     let b = config.b;
     let c = config.c;
@@ -112,7 +132,9 @@ fn lines(page: &mut Page, from: usize, config: Config, active: u8) -> usize {
 }
 
 // Puts the flags and the request lines.
-fn flags(page: &mut Page, from: usize, t: Timer) -> usize {
+fn flags(page: &mut Page, from: usize, t: Timer) -> usize
+    ensures { λ r. ⌜ Puts (now (page .entry)) from (now (page .exit)) r (flagsOf t) ⌝ }
+{
     let flags = t.flags;
     let at = register(page, from, b" tifr=", flags.tifr);
     let at = register(page, at, b" timsk=", flags.timsk);
@@ -120,7 +142,9 @@ fn flags(page: &mut Page, from: usize, t: Timer) -> usize {
 }
 
 // Puts what halts the counter, and whether the comparator feeds the capture.
-fn halts(page: &mut Page, from: usize, t: Timer) -> usize {
+fn halts(page: &mut Page, from: usize, t: Timer) -> usize
+    ensures { λ r. ⌜ Puts (now (page .entry)) from (now (page .exit)) r (haltsOf t) ⌝ }
+{
     let halts = t.halts;
     let at = bit(page, from, b" asleep=", halts.asleep);
     let at = bit(page, at, b" prr=", halts.reduced);
@@ -129,7 +153,9 @@ fn halts(page: &mut Page, from: usize, t: Timer) -> usize {
 }
 
 // Puts the cycles, and between them what halts the counter.
-fn clock(page: &mut Page, from: usize, t: Timer) -> usize {
+fn clock(page: &mut Page, from: usize, t: Timer) -> usize
+    ensures { λ r. ⌜ Puts (now (page .entry)) from (now (page .exit)) r (clockOf t) ⌝ }
+{
     let clock = t.clock;
     let sync = clock.sync;
     let origin = clock.origin;
@@ -141,7 +167,9 @@ fn clock(page: &mut Page, from: usize, t: Timer) -> usize {
 }
 
 // Puts the timer.
-pub fn state(page: &mut Page, from: usize, t: Timer) -> usize {
+pub fn state(page: &mut Page, from: usize, t: Timer) -> usize
+    ensures { λ r. ⌜ Puts (now (page .entry)) from (now (page .exit)) r (stateOf t) ⌝ }
+{
     let counter = t.counter;
     let at = counts(page, from, t);
     let at = outputs(page, at, t);
@@ -153,6 +181,7 @@ pub fn state(page: &mut Page, from: usize, t: Timer) -> usize {
 // Puts the distance to the next event's tick, the flags that this will raise, and the compares looked at.
 pub fn distance(page: &mut Page, from: usize, t: Timer) -> usize
     requires { ⌜ Valid t ⌝ }
+    ensures { λ r. ⌜ Puts (now (page .entry)) from (now (page .exit)) r (distanceText t) ⌝ }
 {
     let d = t.distance();
     let at = number(page, from, b"distance ticks=", d.ticks as u64);

@@ -1,0 +1,2 @@
+pub mod Hexes
+pub mod Tellings
