@@ -29,7 +29,7 @@ use Rattle.counter.specs.Setting.{settingAt, settingOf, movingOf}
 use Rattle.timer.specs.declared.calls.Call.{Call}
 use Rattle.timer.specs.declared.calls.Call.the-variants as call
 use Rattle.timer.specs.Calls.{placed, isPin, edgeCaptures, edgeTicks, outputCaptures, works, asks}
-use Rattle.timer.proofs.Outcomes.{reduces-not, changes-not, prescales-not}
+use Rattle.timer.proofs.Outcomes.{reducing, changing, prescaling, stays}
 use Rattle.outlook.specs.Announced.{touches}
 use Rattle.outlook.proofs.Same.{Same}
 
@@ -137,7 +137,7 @@ work-same t (call.Output level) cycle r h = output-same t level cycle
 work-same t (call.Route level) cycle r h = cond-all (λ (x : Timer). Same t (latestTo x cycle)) (t .config .icr .present) (record { running = refl; next = refl; flags = refl }) (latest-same t cycle)
 work-same t (call.Sleep mode) cycle r h = rw h (latest-same t cycle)
 work-same t call.Wake cycle r h = cond-case (λ (x : Timer). Same t (latestTo x cycle)) (t .halts .asleep) (λ e. absurd (true≢false (sym e ∙ awake t r))) (λ e. latest-same t cycle)
-work-same t (call.Reduce mask) cycle r h = left-same t cycle (reduces-not t cycle mask h)
-work-same t (call.Tsm level) cycle r h = left-same t cycle (changes-not t cycle level h)
-work-same t (call.Prescale mask) cycle r h = left-same t cycle (prescales-not t cycle mask h)
+work-same t (call.Reduce mask) cycle r h = left-same t cycle (stays (reducing t cycle mask) h)
+work-same t (call.Tsm level) cycle r h = left-same t cycle (stays (changing t cycle level) h)
+work-same t (call.Prescale mask) cycle r h = left-same t cycle (stays (prescaling t cycle mask) h)
 work-same t call.Reset cycle r h = absurd (true≢false h)

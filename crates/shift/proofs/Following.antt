@@ -29,7 +29,7 @@ use Rattle.timer.specs.declared.calls.Call.{Call}
 use Rattle.timer.specs.declared.calls.Call.the-variants as call
 use Rattle.timer.specs.Calls.{placed, edgeCaptures, edgeTicks, outputCaptures, asks, works, before, worked, moved, performed, refusalOf, answered}
 use Rattle.timer.specs.Claims.{Request, told, last}
-use Rattle.timer.proofs.Outcomes.{reduces-not}
+use Rattle.timer.proofs.Outcomes.{reducing, stays}
 use Rattle.outlook.specs.Announced.{touches}
 use Rattle.shift.specs.Claims.{Undisturbed}
 use Rattle.timer.proofs.Accepted.{Accepted, call-accepted}
@@ -173,7 +173,7 @@ module _ (t : Timer) (base : ℕ) (divides : 0 < divisorOf t) (normal : kindAt (
   works-follow x (call.Route level) cycle f e = cond-all (λ (u : Timer). Follows t base (latestTo u cycle)) (x .config .icr .present) (record { config = f .config; tccra = f .tccra; tccrb = f .tccrb; origin = f .origin; free = f .free; count = f .count }) (latest-follows x cycle f)
   works-follow x (call.Sleep mode) cycle f e = rw e (latest-follows x cycle f)
   works-follow x call.Wake cycle f e = cond-case (λ (u : Timer). Follows t base (latestTo u cycle)) (x .halts .asleep) (λ a. absurd (true≢false (rw a at (f .free)))) (λ a. latest-follows x cycle f)
-  works-follow x (call.Reduce mask) cycle f e = subst (λ (u : Timer). Follows t base (latestTo u cycle)) (reduces-not x cycle mask e) (latest-follows x cycle f)
+  works-follow x (call.Reduce mask) cycle f e = subst (λ (u : Timer). Follows t base (latestTo u cycle)) (stays (reducing x cycle mask) e) (latest-follows x cycle f)
   works-follow x (call.Tsm level) cycle f e = rw e (latest-follows x cycle f)
   works-follow x (call.Prescale mask) cycle f e = rw e (latest-follows x cycle f)
   works-follow x call.Reset cycle f e = absurd (true≢false e)

@@ -16,7 +16,7 @@ use Rattle.counter.specs.Capture.{captures}
 use Rattle.wave.specs.Distance.{gap}
 use Rattle.counter.specs.Next.{nextAt, nextFlags}
 use Rattle.counter.specs.Halts.{latestTo, halting, asleepAt, awakeAt, reducedTo, prescaledAt, tsmTo, routedTo}
-use Rattle.counter.specs.Logs.{Logs}
+use Rattle.counter.specs.Logs.{Noted, silent, Logs}
 use Rattle.counter.specs.Modes.{modeOf, waveOf}
 use Rattle.passage.specs.Passage.{ticks}
 use Rattle.counter.specs.Passage.{due, synced, passed, syncTo, advanced, Advances}
@@ -230,44 +230,68 @@ module _ (t : Timer) (cycle : ℕ) where
   unfolding works
   wakes-not e = is-second (t .halts .asleep) _ _ e
 
-  pub sleeps-not : (mode : ℕ) → halting t mode ≡ false → t ≡ works t (call.Sleep mode) cycle .timer
-  unfolding works
-  sleeps-not mode e = is-second (halting t mode) _ _ e
+-- ---- a call that turns something in the timer, or finds it so: time passes where it turns
+pub record Turning (t : Timer) (c : Call) (cycle : ℕ) (turns : Bool) (made : Timer → Timer) : Type 0 where
+  pub tested : asks t c .tested ≡ true
+  pub advances : asks t c .advances ≡ false
+  pub syncs : asks t c .syncs ≡ turns
+  pub works : {x : Timer} → Kept t x → works x c cycle ≡ silent (cond turns (made x) x)
+  pub says : (x : Timer) → says x c ≡ none
 
-  pub reduces-not : (mask : ℕ) → not (Bool·beq (reduces t mask) (t .halts .reduced)) ≡ false → t ≡ works t (call.Reduce mask) cycle .timer
-  unfolding works reducedTo
-  reduces-not mask h = rw (same (reduces t mask) (t .halts .reduced) h)
+module _ (t : Timer) (cycle : ℕ) where
+  pub sleeping : (mode : ℕ) → Turning t (call.Sleep mode) cycle (halting t mode) (λ x. asleepAt x cycle)
+  unfolding asks works says halting
+  sleeping mode = record { tested = refl; advances = refl; syncs = refl; works = λ k. rw (k .config); says = λ x. refl }
+
+  pub reducing : (mask : ℕ) → Turning t (call.Reduce mask) cycle (not (Bool·beq (reduces t mask) (t .halts .reduced))) (λ x. reducedTo x (reduces t mask))
+  unfolding asks works says reducedTo
+  reducing mask =
+      record {
+        tested = refl;
+        advances = refl;
+        syncs = refl;
+        works = λ {x} k. let r : reduces x mask ≡ reduces t mask = rw (k .config) in ap silent (ap (reducedTo x) r ∙ so x (reduces t mask) (k .halts));
+        says = λ x. refl;
+      }
     where
-      same : (a b : Bool) → not (Bool·beq a b) ≡ false → a ≡ b
-      same true true e = refl
-      same true false e = e
-      same false true e = sym e
-      same false false e = refl
+      so : (x : Timer) (on : Bool) → x .halts ≡ t .halts → reducedTo x on ≡ cond (not (Bool·beq on (t .halts .reduced))) (reducedTo x on) x
+      so x on e = rw (← e) (go on (x .halts .reduced) refl)
+        where
+          go : (a b : Bool) → x .halts .reduced ≡ b → reducedTo x a ≡ cond (not (Bool·beq a b)) (reducedTo x a) x
+          go true true e = rw (← e)
+          go true false e = refl
+          go false true e = refl
+          go false false e = rw (← e)
 
-  pub changes-not : (level : ℕ) → changes t level ≡ false → t ≡ works t (call.Tsm level) cycle .timer
-  unfolding works
-  changes-not level e = is-second (changes t level) _ _ e
+  pub changing : (level : ℕ) → Turning t (call.Tsm level) cycle (changes t level) (λ x. tsmTo x (eqb level 1) cycle)
+  unfolding asks works says
+  changing level = record { tested = refl; advances = refl; syncs = refl; works = λ k. rw (k .halts); says = λ x. refl }
 
-  pub prescales-not : (mask : ℕ) → prescales t mask ≡ false → t ≡ works t (call.Prescale mask) cycle .timer
-  unfolding works
-  prescales-not mask e = is-second (prescales t mask) _ _ e
+  pub prescaling : (mask : ℕ) → Turning t (call.Prescale mask) cycle (prescales t mask) (λ x. prescaledAt x cycle)
+  unfolding asks works says
+  prescaling mask = record { tested = refl; advances = refl; syncs = refl; works = λ k. rw (k .config); says = λ x. refl }
 
-module _ {t x : Timer} (k : Kept t x) (cycle : ℕ) {u : Timer} where
-  pub sleeps : (mode : ℕ) → halting t mode ≡ true → u ≡ asleepAt x cycle → u ≡ works x (call.Sleep mode) cycle .timer
-  unfolding works halting
-  sleeps mode e h = h ∙ is-first (halting x mode) _ _ (rw (k .config) e)
+module _ {t : Timer} {c : Call} {cycle : ℕ} {turns : Bool} {made : Timer → Timer} (g : Turning t c cycle turns made) where
+  unmoved : turns ≡ false → works t c cycle ≡ silent t
+  unmoved o = rw o at (g .works {x = t} (record { config = refl; registers = refl; halts = refl }))
 
-  pub reduces-to : (mask : ℕ) → u ≡ reducedTo x (reduces t mask) → u ≡ works x (call.Reduce mask) cycle .timer
-  unfolding works
-  reduces-to mask h = h ∙ ap (reducedTo x) (rw (k .config))
+  pub stays : turns ≡ false → t ≡ works t c cycle .timer
+  stays o = sym (ap (λ (y : Noted). y .timer) (unmoved o))
 
-  pub changes-to : (level : ℕ) → changes t level ≡ true → u ≡ tsmTo x (eqb level 1) cycle → u ≡ works x (call.Tsm level) cycle .timer
-  unfolding works
-  changes-to level e h = h ∙ is-first (changes x level) _ _ (rw (k .halts) e)
+  module _ {n : ℕ} (v : Valid t) (e : n ≡ refusalOf t c cycle) (z : n ≡ 0) where
+    pub turn-asked : (Valid t) × (t .clock .latest .0 ≤ cycle) × (cycle < 2 ^ 62) × (due t cycle ≤ gap (waveOf t (modeOf t)) (t .counter) (t .ocr))
+    turn-asked = sync-asked t c cycle v (sym e ∙ z) (g .tested)
 
-  pub prescales-to : (mask : ℕ) → prescales t mask ≡ true → u ≡ prescaledAt x cycle → u ≡ works x (call.Prescale mask) cycle .timer
-  unfolding works
-  prescales-to mask e h = h ∙ is-first (prescales x mask) _ _ (rw (k .config) e)
+    pub turned : (area : List ℕ) {x u : Timer} {r : Outcome} → turns ≡ true → (x ≡ synced ticks t cycle .timer) × (synced ticks t cycle .bytes ≡ []) × (Valid x) → u ≡ made x
+        → r ≡ record { answer = answer.Done; timer = latestTo u cycle; written = 0 } → Tells (answered ticks t c cycle area) r area
+    turned area {x} {u} o p m q =
+        let w : works x c cycle ≡ silent (made x) = rw o at (g .works (kept t cycle p)) in
+        plainly t c cycle area (in-time t c cycle area v e z (g .advances) (g .syncs ∙ o) p) u (m ∙ sym (ap (λ (y : Noted). y .timer) w)) (ap (λ (y : Noted). y .log) w) (sym (g .says x)) refl q
+
+    pub unturned : (area : List ℕ) {r : Outcome} → turns ≡ false
+        → r ≡ record { answer = answer.Done; timer = latestTo t cycle; written = 0 } → Tells (answered ticks t c cycle area) r area
+    unturned area o q =
+        plainly t c cycle area (at-once t c cycle area v e z (g .advances) (g .syncs ∙ o)) t (stays o) (ap (λ (y : Noted). y .log) (unmoved o)) (sym (g .says t)) refl q
 
 -- a byte written is the call's value
 pub written-is : (x : Timer) (address value cycle : ℕ) {place : ℕ} {l : Logged} → value < 256 → place ≡ placed x address → Logs (written x place value) cycle l

@@ -1,13 +1,8 @@
-use Rattle.timer.proofs.Outcomes.{prescales-to, prescales-not, turned-away, sync-asked, kept, at-once, in-time, plainly}
-use Rattle.timer.specs.declared.calls.Call.the-variants as call
-use Rattle.timer.specs.Calls.{asks, works, says, refusalOf}
-use mathlib.Core.Path.{refl, sym, _∙_}
+use Rattle.timer.proofs.Outcomes.{turned-away, prescaling, turn-asked, turned, unturned}
+use Rattle.timer.specs.Calls.{asks, refusalOf}
 use borrow.Author.Needs.{needs}
 use Rattle.timer.proofs.calls.prescale.Statement.{statement}
 use Rattle.timer.proofs.calls.prescale.Tie as tie
-
-refusal-requires : tie.Need-refusal-requires
-refusal-requires c κs = c .before .before .before .before .before .pre
 
 returns : tie.Need-returns
 unfolding refusalOf asks
@@ -15,15 +10,15 @@ returns c = turned-away _ _ _ _ (c .before .before .before .before .before .befo
 
 sync-requires : tie.Need-sync-requires
 unfolding refusalOf asks
-sync-requires c κs = sync-asked (c .before .before .before .before .before .before .before .before .args .t) (call.Prescale (c .before .before .before .before .before .before .before .before .args .mask)) (c .before .before .before .before .before .before .before .before .args .cycle .0) (c .before .before .before .before .before .before .before .before .pre) (sym (c .before .before .refusal .ensures) ∙ c .before .if1 .left) refl
+sync-requires c κs = turn-asked (prescaling (c .before .before .before .before .before .before .before .before .args .t) (c .before .before .before .before .before .before .before .before .args .cycle .0) (c .before .before .before .before .before .before .before .before .args .mask)) (c .before .before .before .before .before .before .before .before .pre) (c .before .before .refusal .ensures) (c .before .if1 .left)
 
 returns-2 : tie.Need-returns-2
-unfolding refusalOf asks works says
-returns-2 c = plainly _ _ _ _ (in-time _ _ _ _ (c .before .before .before .before .before .before .before .before .before .before .before .pre) (c .before .before .before .before .before .refusal .ensures) (c .before .before .before .before .if1 .left) refl (c .before .before .before .if2 .taken) (c .before .before .sync .ensures)) (c .before .prescaled .result) (prescales-to (kept _ _ (c .before .before .sync .ensures)) (c .before .before .before .before .before .before .before .before .before .before .before .args .cycle .0) (c .before .before .before .before .before .before .before .before .before .before .before .args .mask) (c .before .before .before .if2 .taken) (c .before .prescaled .ensures)) refl refl refl (c .done .ensures)
+unfolding refusalOf asks
+returns-2 c = turned (prescaling (c .before .before .before .before .before .before .before .before .before .before .before .args .t) (c .before .before .before .before .before .before .before .before .before .before .before .args .cycle .0) (c .before .before .before .before .before .before .before .before .before .before .before .args .mask)) (c .before .before .before .before .before .before .before .before .before .before .before .pre) (c .before .before .before .before .before .refusal .ensures) (c .before .before .before .before .if1 .left) _ (c .before .before .before .if2 .taken) (c .before .before .sync .ensures) (c .before .prescaled .ensures) (c .done .ensures)
 
 returns-3 : tie.Need-returns-3
-unfolding refusalOf asks works says
-returns-3 c = plainly _ _ _ _ (at-once _ _ _ _ (c .before .before .before .before .before .before .before .before .before .pre) (c .before .before .before .refusal .ensures) (c .before .before .if1 .left) refl (c .before .if2 .left)) (c .before .before .before .before .before .before .before .before .before .args .t) (prescales-not _ (c .before .before .before .before .before .before .before .before .before .args .cycle .0) (c .before .before .before .before .before .before .before .before .before .args .mask) (c .before .if2 .left)) refl refl refl (c .done2 .ensures)
+unfolding refusalOf asks
+returns-3 c = unturned (prescaling (c .before .before .before .before .before .before .before .before .before .args .t) (c .before .before .before .before .before .before .before .before .before .args .cycle .0) (c .before .before .before .before .before .before .before .before .before .args .mask)) (c .before .before .before .before .before .before .before .before .before .pre) (c .before .before .before .refusal .ensures) (c .before .before .if1 .left) _ (c .before .if2 .left) (c .done2 .ensures)
 
 pub prescale-spec : {M : Type 1} → statement M
-prescale-spec = tie.close (tie.spec refusal-requires (λ c κs. search needs) returns sync-requires (λ c κs. search needs) (λ c κs. search needs) returns-2 (λ c κs. search needs) returns-3)
+prescale-spec = tie.close (tie.spec (λ c κs. c .before .before .before .before .before .pre) (λ c κs. search needs) returns sync-requires (λ c κs. search needs) (λ c κs. search needs) returns-2 (λ c κs. search needs) returns-3)
