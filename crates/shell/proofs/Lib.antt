@@ -1,7 +1,5 @@
 pub mod Cells
 pub mod Histories
-pub mod Listed
-pub mod Obeyed
 pub mod Past
 pub mod Places
 pub mod Raws

@@ -12,7 +12,3 @@ pub known-past : (cs : List Call) (n : ℕ) → length cs ≤ n → known cs n �
 known-past [] n h = refl
 known-past (c ∷ cs) zero h = absurd (omega arith)
 known-past (c ∷ cs) (suc n) h = known-past cs n (omega arith)
-
--- a number that is at least k and not k is at least the next
-pub further : (k n : ℕ) → k ≤ n → (n ≡ k → ⊥) → suc k ≤ n
-further k n h e = omega arith

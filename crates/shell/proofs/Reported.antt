@@ -4,8 +4,8 @@ use mathlib.Core.Path.{_≡_, refl}
 use Prim.Native.Nat.{ℕ}
 use Rattle.watchdog.specs.declared.outcome.Outcome.{Outcome}
 use Rattle.watchdog.specs.Outcome.{Told, Tells}
-use Rattle.shell.specs.declared.watchdogs.Watched.{Watched}
-use Rattle.shell.specs.Watchdogs.{watchedOf, Reports}
+use Rattle.replies.specs.declared.watchdogs.Watched.{Watched}
+use Rattle.replies.specs.Watchdogs.{watchedOf, Reports}
 
 pub reports : {x : Told} {o : Outcome} {r : Watched} {after : List ℕ} → Tells x o after → r ≡ watchedOf o → Reports x r after
 reports e er = rw (er, ← e .told) (record { watchdog = refl; report = refl; area = refl; valid = e .valid })

@@ -7,15 +7,15 @@ use Rattle.board.specs.declared.state.Board.{Board}
 use Rattle.board.specs.Calls.{Areas, Told}
 use Rattle.board.specs.Claims.{Request, tells, outcomes, last}
 use Rattle.board.proofs.Claims.{alike}
-use Rattle.shell.specs.declared.boards.Ordered.{Ordered}
-use Rattle.shell.specs.declared.boards.Replied.{Replied}
-use Rattle.shell.specs.declared.boards.Meant.the-variants as meant
-use Rattle.shell.specs.Boards.{orderOf, toldTo, Obeys}
+use Rattle.orders.specs.declared.Ordered.{Ordered}
+use Rattle.orders.specs.declared.Replied.{Replied}
+use Rattle.orders.specs.declared.Meant.the-variants as meant
+use Rattle.orders.specs.Orders.{orderOf, toldTo, Obeys}
 use Rattle.shell.specs.Runs.{replied, asking, History, nothing, ordered, unnamed, ExportIsRun}
 use Rattle.counter.specs.declared.next.Next.the-variants as next
 use Rattle.answers.specs.Answers.{Values, refused, none, byte, event, reached, paused}
 use Rattle.held.specs.Reply.{whatOf, valueOf}
-use Rattle.shell.specs.Boards.{flagsOf}
+use Rattle.orders.specs.Orders.{flagsOf}
 use Rattle.shell.specs.Histories.{valuesIn}
 
 -- a reply's numbers say the values that they were made from

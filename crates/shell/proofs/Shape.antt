@@ -3,8 +3,7 @@ use mathlib.Core.Path.{_≡_, refl}
 use prog.Memory.{size, align}
 use Rattle.held.proofs.state.Held.Laws as held
 use Rattle.board.proofs.state.Board.Laws as board
-use Rattle.shell.specs.Numbers.{shape}
-use Rattle.shell.specs.Boards.{boardShape}
+use Rattle.shell.specs.Numbers.{shape, boardShape}
 
 pub held-size : size held.mir ≡ shape .size
 held-size = refl

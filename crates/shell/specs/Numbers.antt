@@ -42,6 +42,10 @@ callOf q = known (calls q) (q .kind)
 abbrev pub shape : Shape
 shape = record { size = 200; align = 8 }
 
+-- and of a board
+abbrev pub boardShape : Shape
+boardShape = record { size = 1600; align = 8 }
+
 -- the call that a number names; a number that names none is turned away with 255
 abbrev pub answeredTo : Timer → Wanted → ℕ → List ℕ → Told
 answeredTo t (wanted.Known c) cycle area = answered ticks t c cycle area

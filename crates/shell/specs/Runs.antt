@@ -6,11 +6,11 @@ use Rattle.board.specs.declared.state.Board.{Board}
 use Rattle.board.specs.State.{freshBoard}
 use Rattle.board.specs.Calls.{Areas, Told}
 use Rattle.board.specs.Claims.{Request, Heard}
-use Rattle.shell.specs.declared.boards.Ordered.{Ordered}
-use Rattle.shell.specs.declared.boards.Replied.{Replied}
-use Rattle.shell.specs.declared.boards.Meant.the-variants as meant
+use Rattle.orders.specs.declared.Ordered.{Ordered}
+use Rattle.orders.specs.declared.Replied.{Replied}
+use Rattle.orders.specs.declared.Meant.the-variants as meant
 use Rattle.shell.specs.Histories.{valuesIn}
-use Rattle.shell.specs.Boards.{orderOf, toldTo, Obeys}
+use Rattle.orders.specs.Orders.{orderOf, toldTo, Obeys}
 
 -- what a reply says beside the board that the order left
 abbrev pub replied : Board → Replied → Areas → Told

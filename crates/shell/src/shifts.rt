@@ -1,30 +1,12 @@
 // How far a late edge moves the capture, for Rust and C.
 
 use counter::state::Timer;
-use shift::Moved;
-use shift::shift;
-use time::units::Cycle;
+use replies::shifts::Shifted;
+use replies::shifts::later;
 ghost use mathlib.Core.Path.{_≡_};
 ghost use Rattle.counter.specs.Valid.{Valid};
 ghost use Rattle.shift.specs.Shift.{shiftOf};
-ghost use Rattle.shell.specs.Shifts.{shiftedOf};
-
-// number is the refusal's, 0 for none; ticks is the shift, 0 beside a refusal.
-#[repr(C)]
-pub struct Shifted {
-    pub number: u8,
-    pub ticks: i32,
-}
-
-// Yields a shift in numbers.
-fn numbers(moved: Moved) -> Shifted
-    ensures { λ r. ⌜ r ≡ shiftedOf moved ⌝ }
-{
-    match moved {
-        Moved::Refused(number) => Shifted { number, ticks: 0 },
-        Moved::By(ticks) => Shifted { number: 0, ticks },
-    }
-}
+ghost use Rattle.replies.specs.Shifts.{shiftedOf};
 
 // Yields how many ticks later an edge at the second cycle is captured than one at the first, of the timer as it stands.
 #[no_mangle]
@@ -32,5 +14,5 @@ pub extern "C" fn paddlemauve_shift(t: Timer, first: u64, second: u64) -> Shifte
     requires { ⌜ Valid t ⌝ }
     ensures { λ r. ⌜ r ≡ shiftedOf (shiftOf t first second) ⌝ }
 {
-    numbers(shift(t, Cycle(first), Cycle(second)))
+    later(t, first, second)
 }

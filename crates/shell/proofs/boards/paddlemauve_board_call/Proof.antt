@@ -45,22 +45,22 @@ use denote.Exit.{yes}
 use Rattle.board.specs.declared.state.Board.{Board}
 use Rattle.board.specs.State.{Valid}
 use Rattle.board.specs.Calls.{areasOf}
-use Rattle.shell.specs.declared.boards.Ordered.{Ordered}
-use Rattle.shell.specs.declared.boards.Replied.{Replied}
-use Rattle.shell.specs.declared.boards.Moved.{Moved}
-use Rattle.shell.specs.Boards.{orderOf, toldTo, Obeys}
+use Rattle.orders.specs.declared.Ordered.{Ordered}
+use Rattle.orders.specs.declared.Replied.{Replied}
+use Rattle.orders.specs.declared.Moved.{Moved}
+use Rattle.orders.specs.Orders.{orderOf, toldTo, Obeys}
 use Rattle.board.proofs.state.Board as T
 use Rattle.board.proofs.state.Board.Laws as T′
-use Rattle.shell.proofs.boards.Ordered as N
-use Rattle.shell.proofs.boards.Ordered.Laws as N′
-use Rattle.shell.proofs.boards.Replied as E
-use Rattle.shell.proofs.boards.Replied.Laws as E′
-use Rattle.shell.proofs.boards.Moved as D
-use Rattle.shell.proofs.boards.Moved.Laws as D′
-use Rattle.shell.proofs.boards.step as core
-use Rattle.shell.proofs.boards.step.Symbol as core-def
-use Rattle.shell.proofs.boards.step.Symbol.{name as #core}
-use Rattle.shell.proofs.boards.step.Met as core-thm
+use Rattle.orders.proofs.Ordered as N
+use Rattle.orders.proofs.Ordered.Laws as N′
+use Rattle.orders.proofs.Replied as E
+use Rattle.orders.proofs.Replied.Laws as E′
+use Rattle.orders.proofs.Moved as D
+use Rattle.orders.proofs.Moved.Laws as D′
+use Rattle.orders.proofs.step as core
+use Rattle.orders.proofs.step.Symbol as core-def
+use Rattle.orders.proofs.step.Symbol.{name as #core}
+use Rattle.orders.proofs.step.Met as core-thm
 use Rattle.shell.proofs.boards.paddlemauve_board_call.Key.{name as #lent}
 use Rattle.shell.proofs.boards.paddlemauve_board_call as lent
 use Rattle.shell.proofs.boards.paddlemauve_board_call.Statement as stated
@@ -239,4 +239,4 @@ paddlemauve-board-call-spec 𝓤 H 𝓜 𝓖 𝓡 =
     entered 𝓤 H (tripleOf 𝓤 H (𝓖 .A) lent.signature (lent.spec 𝓤 H (𝓖 .A) (𝓜 .mem) (𝓡 .run)))
     (tables 𝓤 H 𝓜 𝓡 code.env .C) (tables 𝓤 H 𝓜 𝓡 code.env .Λ) #lent code.function (code.unfolded 𝓤 H 𝓜 𝓡)
     (lent-meets 𝓤 H (𝓖 .A) (givenOf 𝓤 H 𝓜 𝓖) (𝓜 .mem) (𝓡 .run) (tablesOf 𝓤 H 𝓜 (tables 𝓤 H 𝓜 𝓡 code.env))
-    (cited 𝓤 H (Core 𝓤 H (𝓖 .A) (𝓜 .mem) (𝓡 .run)) 𝓜 𝓡 code.env #core core-def.routine code.calls-shell·boards·step (core-thm.met 𝓤 H 𝓜 𝓖 𝓡)))
+    (cited 𝓤 H (Core 𝓤 H (𝓖 .A) (𝓜 .mem) (𝓡 .run)) 𝓜 𝓡 code.env #core core-def.routine code.calls-orders·step (core-thm.met 𝓤 H 𝓜 𝓖 𝓡)))

@@ -1,4 +1,5 @@
-use Rattle.shell.proofs.Past.{known-past, further}
+use Rattle.orders.proofs.Obeyed.{further}
+use Rattle.shell.proofs.Past.{known-past}
 use Rattle.shell.specs.Numbers.{calls}
 use mathlib.Core.Path.{sym}
 use native.Mathlib.Omega.{arith}
