@@ -168,7 +168,7 @@ fn call_on(b: Bench, asked: Asked, area: &mut [u8], page: &mut Page) -> Bench
     ensures { λ r. ⌜ Sound r ⌝ }
 {
     let call = asked.call;
-    let o = timer::call(b.timer, call, Cycle(asked.cycle), area);
+    let o = dispatch::call(b.timer, call, Cycle(asked.cycle), area);
     told(b, o, area, page)
 }
 

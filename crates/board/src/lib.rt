@@ -73,9 +73,9 @@ fn own(
     ensures { λ r. ⌜ Tells (aimed ticks b (Goal.Own id call) (cycle .0) (areasOf (now (zero .entry)) (now (one .entry)) (now (two .entry)))) r (now (zero .exit)) (now (one .exit)) (now (two .exit)) ⌝ }
 {
     match id {
-        Id::Zero => took(b, id, timer::call(b.zero, call, cycle, zero)),
-        Id::One => took(b, id, timer::call(b.one, call, cycle, one)),
-        Id::Two => took(b, id, timer::call(b.two, call, cycle, two)),
+        Id::Zero => took(b, id, dispatch::call(b.zero, call, cycle, zero)),
+        Id::One => took(b, id, dispatch::call(b.one, call, cycle, one)),
+        Id::Two => took(b, id, dispatch::call(b.two, call, cycle, two)),
     }
 }
 

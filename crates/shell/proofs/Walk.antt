@@ -59,7 +59,7 @@ use Rattle.answers.proofs.Outcome as D
 use Rattle.answers.proofs.Outcome.Laws as D′
 use Rattle.shell.proofs.lent.Told as E
 use Rattle.shell.proofs.lent.Told.Laws as E′
-use Rattle.timer.proofs.calls.advance as core
+use Rattle.elapse.proofs.advance as core
 use Rattle.shell.proofs.lent.advance as lent
 
 -- the MIR, as `rt mir` shows it. A declared type by value is `mir` of its laws, and behind a reference its name

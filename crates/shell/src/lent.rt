@@ -3,7 +3,6 @@
 use answers::Answer;
 use counter::state::Timer;
 use time::units::Cycle;
-use timer::calls;
 ghost use Rattle.counter.specs.Valid.{Valid};
 ghost use Rattle.shell.specs.Lent.{Leaves};
 ghost use Rattle.passage.specs.Passage.{ticks};
@@ -21,7 +20,7 @@ pub fn advance(t: &mut Timer, cycle: Cycle, area: &mut [u8]) -> Told
     requires { ⌜ Valid (now t) ⌝ }
     ensures { λ r. ⌜ Leaves (answered ticks (now (t .entry)) Call.Advance (cycle .0) (now (area .entry))) (now (t .exit)) r (now (area .exit)) ⌝ }
 {
-    let o = calls::advance(*t, cycle, area);
+    let o = elapse::advance(*t, cycle, area);
     *t = o.timer;
     Told {
         answer: o.answer,
@@ -34,7 +33,7 @@ pub fn reset(t: &mut Timer, cycle: Cycle, area: &mut [u8]) -> Told
     requires { ⌜ Valid (now t) ⌝ }
     ensures { λ r. ⌜ Leaves (answered ticks (now (t .entry)) Call.Reset (cycle .0) (now (area .entry))) (now (t .exit)) r (now (area .exit)) ⌝ }
 {
-    let o = calls::reset(*t, cycle, area);
+    let o = elapse::reset(*t, cycle, area);
     *t = o.timer;
     Told {
         answer: o.answer,

@@ -3,12 +3,12 @@
 mod items;
 
 use crate::items::Item;
+use access::write;
 use answers::Answer;
 use answers::Outcome;
 use counter::state::Timer;
+use elapse::advance;
 use time::units::Cycle;
-use timer::calls::advance;
-use timer::calls::write;
 ghost use mathlib.Core.Path.{_≡_};
 ghost use Rattle.passage.specs.Passage.{ticks};
 ghost use Rattle.counter.specs.Valid.{Valid};
