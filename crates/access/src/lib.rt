@@ -36,11 +36,11 @@ pub fn read(t: Timer, address: u16, cycle: Cycle, area: &mut [u8]) -> Outcome
         return refused(t, n);
     }
     if high {
-        let r = t.read(place);
+        let r = reading::read(t, place);
         let u = r.timer;
         return done(u, cycle, Answer::Value(r.value));
     }
-    let r = t.sync(cycle).read(place);
+    let r = reading::read(t.sync(cycle), place);
     let u = r.timer;
     done(u, cycle, Answer::Value(r.value))
 }
@@ -57,7 +57,7 @@ pub fn peek(t: Timer, address: u16, cycle: Cycle, area: &mut [u8]) -> Outcome
         return refused(t, n);
     }
     let s = t.sync(cycle);
-    done(s, cycle, Answer::Value(s.peek(place)))
+    done(s, cycle, Answer::Value(reading::peek(s, place)))
 }
 
 // A register's byte is written.

@@ -38,6 +38,13 @@ unfolding sourceAt most
 source-max true mode = at-most wideSources mode
 source-max false mode = let h = at-most narrowSources mode in omega arith
 
+-- a mode is a place in the tables of its width
+pub in-wide : {wide : Bool} {mode : ℕ} → mode < cond wide 16 8 → wide ≡ true → mode < 16
+in-wide h e = rw e at h
+
+pub in-narrow : {wide : Bool} {mode : ℕ} → mode < cond wide 16 8 → wide ≡ false → mode < 8
+in-narrow h e = rw e at h
+
 -- ---- clocks: those that are divisors, and those that are not
 clock-max : (clock : ℕ) → cond (leb clock 1024) clock 0 ≤ 1024
 clock-max clock = cond-case (λ (n : ℕ). n ≤ 1024) (leb clock 1024) (leb-true clock 1024) (λ e. omega arith)

@@ -1,7 +1,6 @@
 // The timer's work, by value: each step takes the timer and gives the timer back.
 
 pub mod advance;
-pub mod capture;
 pub mod flags;
 pub mod fresh;
 pub mod halts;

@@ -1,4 +1,4 @@
-// Registers: what an address holds, what reading it yields, and what writing it does.
+// Registers: what writing one does. `reading` has what an address holds, and what reading it yields.
 
 use crate::advance::Logged;
 use crate::state::Registers;
@@ -15,14 +15,8 @@ ghost use Prim.Native.Nat.{_<_};
 ghost use mathlib.Core.Path.{_≡_};
 ghost use Rattle.counter.specs.Logs.{Logs};
 ghost use Rattle.counter.specs.Parts.{registersTo};
-ghost use Rattle.counter.specs.Registers.{tempTo, icrTo, countTo, immediate, compareTo, wordOf, packed, controlOf, peeked, readValue, readTimer, committed, commit, configured, forcedBy, driven, storedA, strobes, writtenA, writtenB, written};
+ghost use Rattle.counter.specs.Registers.{tempTo, icrTo, countTo, immediate, compareTo, committed, commit, configured, forcedBy, driven, storedA, strobes, writtenA, writtenB, written};
 ghost use Rattle.counter.specs.Valid.{Valid};
-
-// A byte read, and the timer with what reading it does to TEMP.
-pub struct Read {
-    pub value: u8,
-    pub timer: Timer,
-}
 
 // The channels that a byte forces, as matches without a flag.
 pub fn forced(config: Config, value: u8) -> Events
@@ -46,66 +40,6 @@ pub fn forced(config: Config, value: u8) -> Events
 }
 
 impl Timer {
-    // The number behind a register of two bytes: TCNTn, a compare's buffer, ICRn.
-    pub fn word(self, place: u8) -> u32
-        ensures { λ r. ⌜ r ≡ wordOf self place ⌝ }
-    {
-        let counter = self.counter;
-        let buffer = self.buffer;
-        let registers = self.registers;
-        match place {
-            0..=1 => counter.count,
-            2..=3 => buffer[0],
-            4..=5 => buffer[1],
-            6..=7 => buffer[2],
-            _ => registers.icr,
-        }
-    }
-
-    // TCCRn of a single layout: WGM0 in bit 6, COM in 5:4, WGM1 in 3, the clock in 2:0.
-    pub fn packed(self) -> u8
-        ensures { λ r. ⌜ r ≡ packed self ⌝ }
-    {
-        let registers = self.registers;
-        let a = registers.tccra;
-        a % 2 * 64 + a / 64 * 16 + a / 2 % 2 * 8 + registers.tccrb % 8
-    }
-
-    // A control or force register; force registers read 0.
-    pub fn control(self, place: u8) -> u8
-        ensures { λ r. ⌜ r ≡ controlOf self place ⌝ }
-    {
-        let config = self.config;
-        let registers = self.registers;
-        match place {
-            10 => {
-                if config.is_split() {
-                    registers.tccra
-                } else {
-                    self.packed()
-                }
-            }
-            11 => registers.tccrb,
-            _ => 0,
-        }
-    }
-
-    // A register's byte as it stands.
-    pub fn peek(self, place: u8) -> u8
-        ensures { λ r. ⌜ r ≡ peeked self place ⌝ }
-    {
-        match place {
-            0..=9 => {
-                if place % 2 == 1 {
-                    (self.word(place) / 256 % 256) as u8
-                } else {
-                    (self.word(place) % 256) as u8
-                }
-            }
-            _ => self.control(place),
-        }
-    }
-
     // The timer with other registers.
     pub fn with_registers(self, registers: Registers) -> Timer
         ensures { λ r. ⌜ r ≡ registersTo self registers ⌝ }
@@ -170,33 +104,6 @@ impl Timer {
             t
         } else {
             t
-        }
-    }
-
-    // A register's byte as a program reads it. TCNTn and ICRn go through TEMP: a high byte is TEMP, a low one fills it in a
-    // wide timer. A compare passes TEMP by.
-    pub fn read(self, place: u8) -> Read
-        ensures { λ r. ⌜ (r .value ≡ readValue self place) × (r .timer ≡ readTimer self place) ⌝ }
-    {
-        let config = self.config;
-        let registers = self.registers;
-        let value = self.peek(place);
-        match place {
-            1 | 9 => Read {
-                value: registers.temp,
-                timer: self,
-            },
-            0 | 8 => {
-                if config.wide {
-                    Read {
-                        value,
-                        timer: self.with_temp((self.word(place) / 256 % 256) as u8),
-                    }
-                } else {
-                    Read { value, timer: self }
-                }
-            }
-            _ => Read { value, timer: self },
         }
     }
 

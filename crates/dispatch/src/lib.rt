@@ -13,6 +13,9 @@ use answers::done;
 use answers::logged;
 use answers::refusals::refusal;
 use answers::refused;
+use capture::captured;
+use capture::captures;
+use capture::ticks_on;
 use config::Wire;
 use counter::state::Timer;
 use elapse::advance;
@@ -51,10 +54,10 @@ pub fn edge(t: Timer, pin: u8, level: u8, cycle: Cycle, area: &mut [u8]) -> Outc
     let icp = icr.wire;
     let tpin = config.t;
     let halts = t.halts;
-    if is_pin(icp, pin) & !halts.routed & t.captures(level) {
-        return logged(t, t.sync(cycle).captured(cycle), cycle, area);
+    if is_pin(icp, pin) & !halts.routed & captures(t, level) {
+        return logged(t, captured(t.sync(cycle), cycle), cycle, area);
     }
-    if is_pin(tpin, pin) & t.ticks_on(level) {
+    if is_pin(tpin, pin) & ticks_on(t, level) {
         return logged(t, t.synced(cycle).tick(cycle), cycle, area);
     }
     done(t, cycle, Answer::Done)
@@ -70,8 +73,8 @@ pub fn output(t: Timer, level: u8, cycle: Cycle, area: &mut [u8]) -> Outcome
         return refused(t, n);
     }
     let halts = t.halts;
-    if halts.routed & t.captures(level) {
-        return logged(t, t.sync(cycle).captured(cycle), cycle, area);
+    if halts.routed & captures(t, level) {
+        return logged(t, captured(t.sync(cycle), cycle), cycle, area);
     }
     done(t, cycle, Answer::Done)
 }

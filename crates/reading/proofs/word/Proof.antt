@@ -1,9 +1,9 @@
 use Rattle.counter.specs.Registers.{wordOf}
 use borrow.Author.Tests.{le-leb, lt-leb}
 use native.Mathlib.Omega.{arith}
 use borrow.Author.Needs.{needs}
-use Rattle.counter.proofs.state.Timer.word.Statement.{statement}
-use Rattle.counter.proofs.state.Timer.word.Tie as tie
+use Rattle.reading.proofs.word.Statement.{statement}
+use Rattle.reading.proofs.word.Tie as tie
 
 returns : tie.Need-returns
 unfolding wordOf

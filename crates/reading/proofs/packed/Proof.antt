@@ -1,8 +1,8 @@
 use Rattle.counter.specs.Registers.{packed}
 use mathlib.Core.Path.{refl}
 use borrow.Author.Needs.{needs}
-use Rattle.counter.proofs.state.Timer.packed.Statement.{statement}
-use Rattle.counter.proofs.state.Timer.packed.Tie as tie
+use Rattle.reading.proofs.packed.Statement.{statement}
+use Rattle.reading.proofs.packed.Tie as tie
 
 returns : tie.Need-returns
 unfolding packed

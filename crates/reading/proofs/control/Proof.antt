@@ -1,8 +1,8 @@
 use Rattle.counter.specs.Registers.{controlOf}
 use borrow.Author.Tests.{ne-eqb}
 use borrow.Author.Needs.{needs}
-use Rattle.counter.proofs.state.Timer.control.Statement.{statement}
-use Rattle.counter.proofs.state.Timer.control.Tie as tie
+use Rattle.reading.proofs.control.Statement.{statement}
+use Rattle.reading.proofs.control.Tie as tie
 
 returns : tie.Need-returns
 unfolding controlOf

@@ -1,11 +1,11 @@
 use mathlib.Core.Logic.{inl, inr}
 use mathlib.Core.Path.{refl}
 use Rattle.counter.specs.Registers.{readValue, readTimer}
 use borrow.Author.Tests.{ne-eqb}
 use borrow.Author.Needs.{needs}
 use Rattle.counter.proofs.Places.{one-of, none-of}
-use Rattle.counter.proofs.state.Timer.read.Statement.{statement}
-use Rattle.counter.proofs.state.Timer.read.Tie as tie
+use Rattle.reading.proofs.read.Statement.{statement}
+use Rattle.reading.proofs.read.Tie as tie
 
 returns : tie.Need-returns
 unfolding readValue readTimer

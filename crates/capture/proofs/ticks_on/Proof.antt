@@ -1,7 +1,7 @@
 use borrow.Author.Needs.{needs}
 use Rattle.counter.specs.Capture.{ticksOn}
-use Rattle.counter.proofs.state.Timer.ticks_on.Statement.{statement}
-use Rattle.counter.proofs.state.Timer.ticks_on.Tie as tie
+use Rattle.capture.proofs.ticks_on.Statement.{statement}
+use Rattle.capture.proofs.ticks_on.Tie as tie
 
 returns : tie.Need-returns
 unfolding ticksOn

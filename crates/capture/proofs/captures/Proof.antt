@@ -1,7 +1,7 @@
 use Rattle.counter.specs.Capture.{captures}
 use borrow.Author.Needs.{needs}
-use Rattle.counter.proofs.state.Timer.captures.Statement.{statement}
-use Rattle.counter.proofs.state.Timer.captures.Tie as tie
+use Rattle.capture.proofs.captures.Statement.{statement}
+use Rattle.capture.proofs.captures.Tie as tie
 
 returns : tie.Need-returns
 unfolding captures

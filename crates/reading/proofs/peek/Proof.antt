@@ -1,9 +1,9 @@
 use Rattle.counter.specs.Registers.{peeked}
 use borrow.Author.Tests.{le-leb, lt-leb, eq-eqb, ne-eqb}
 use native.Mathlib.Omega.{arith}
 use borrow.Author.Needs.{needs}
-use Rattle.counter.proofs.state.Timer.peek.Statement.{statement}
-use Rattle.counter.proofs.state.Timer.peek.Tie as tie
+use Rattle.reading.proofs.peek.Statement.{statement}
+use Rattle.reading.proofs.peek.Tie as tie
 
 returns : tie.Need-returns
 unfolding peeked
