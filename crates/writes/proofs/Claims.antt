@@ -17,8 +17,8 @@ use Rattle.timer.specs.Calls.{answered}
 use Rattle.timer.specs.Claims.{Request, told, outcomes, last}
 use Rattle.timer.proofs.Alike.{told-alike}
 use Rattle.timer.proofs.Keeps.{call-keeps}
-use Rattle.writes.specs.declared.items.Item.{Item}
-use Rattle.writes.specs.Items.{itemsIn}
+use Rattle.items.specs.declared.Item.{Item}
+use Rattle.items.specs.Items.{itemsIn}
 use Rattle.writes.specs.Writes.{stopping, behind, wrote, worked, Listed, after, listed, listing}
 use Rattle.writes.specs.Claims.{ListsAlike, EmptyList, singles, requests, recordsIn, going, numberIn, valuesIn, AsSingles, Matches, SingleCalls}
 use Rattle.writes.proofs.Rests.{answered-all, answered-within}

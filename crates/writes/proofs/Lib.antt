@@ -1,4 +1,3 @@
-pub mod Bytes
 pub mod Rests
 pub mod Lists
 pub mod Claims

@@ -16,10 +16,10 @@ use Rattle.answers.specs.declared.Answer.the-variants as answer
 use Rattle.answers.specs.declared.Outcome.{Outcome}
 use Rattle.answers.specs.Answers.{none, Tells, numberOf, valuesOf}
 use Rattle.answers.proofs.Determined.{determined}
-use Rattle.writes.specs.declared.items.Item.{Item}
+use Rattle.items.specs.declared.Item.{Item}
 use Rattle.writes.specs.declared.Why.{Why}
 use Rattle.writes.specs.declared.Why.the-variants as why
-use Rattle.writes.specs.Items.{itemIn, itemsIn}
+use Rattle.items.specs.Items.{itemIn, itemsIn}
 use Rattle.writes.specs.Writes.{stopping, behind, worked, Listed, after, listed, listing, whyOf, reasonOf, Lists}
 use Rattle.writes.proofs.Rests.{left, back, left-is, back-is, back-long, stop-told, put-behind, worked-within, inside-both}
 

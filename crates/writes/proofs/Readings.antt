@@ -19,7 +19,7 @@ use Rattle.tick.specs.Setting.{enabledAt, channelOf}
 use Rattle.counter.specs.Setting.{settingAt}
 use Rattle.time.specs.Units.{ticksAt, cycleAt}
 use Rattle.timer.specs.Calls.{asks, works, says, before, worked as callWorked, moved, performed, refusalOf, answered}
-use Rattle.writes.specs.Items.{itemIn, itemsIn}
+use Rattle.items.specs.Items.{itemIn, itemsIn}
 use Rattle.writes.specs.Writes.{wrote, worked, listed, listing}
 use Rattle.writes.specs.Claims.{ListReading}
 use Rattle.answers.specs.Refusals.{isDue, late, refusal}

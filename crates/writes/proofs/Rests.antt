@@ -18,7 +18,7 @@ use Rattle.counter.specs.Passage.{Passed, advanced}
 use Rattle.records.specs.Records.{recordsOf}
 use Rattle.timer.specs.Calls.{asks, works, says, before, refusalOf, answered, performed, moved, worked as callWorked}
 use lib.Dec.{eqb, leb}
-use Rattle.writes.specs.declared.items.Item.{Item}
+use Rattle.items.specs.declared.Item.{Item}
 use Rattle.writes.specs.Writes.{stopping, behind, wrote, worked}
 
 -- ---- a part lent, and back

@@ -14,7 +14,7 @@ use Rattle.timer.specs.declared.calls.Call.the-variants as call
 use Rattle.m328p.specs.Timers.{timer0}
 use Rattle.timer.specs.Readings.{flags, trigger}
 use Rattle.timer.specs.Claims.{Request, told, outcomes, last}
-use Rattle.writes.specs.declared.items.Item.{Item}
+use Rattle.items.specs.declared.Item.{Item}
 use Rattle.writes.specs.Writes.{stopping, Listed, listed, listing}
 
 -- Lists alike: by the counter that skips and by the plain counter the list tells the same, items, timer, reason, bytes and area

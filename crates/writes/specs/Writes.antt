@@ -12,11 +12,11 @@ use Rattle.answers.specs.declared.Answer.the-variants as answer
 use Rattle.answers.specs.Answers.{Values, refused, none, byte, event, reached, paused, Told, turned, answerOf, Tells}
 use Rattle.timer.specs.declared.calls.Call.the-variants as call
 use Rattle.timer.specs.Calls.{answered}
-use Rattle.writes.specs.declared.items.Item.{Item}
+use Rattle.items.specs.declared.Item.{Item}
 use Rattle.writes.specs.declared.Why.{Why}
 use Rattle.writes.specs.declared.Why.the-variants as why
 use Rattle.writes.specs.declared.Written.{Written}
-use Rattle.writes.specs.Items.{itemsIn}
+use Rattle.items.specs.Items.{itemsIn}
 
 -- ---- when the list stops
 

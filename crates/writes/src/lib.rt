@@ -1,13 +1,11 @@
 // A lent list of register writes, worked in one call.
 
-mod items;
-
-use crate::items::Item;
 use access::write;
 use answers::Answer;
 use answers::Outcome;
 use counter::state::Timer;
 use elapse::advance;
+use items::Item;
 use time::units::Cycle;
 ghost use mathlib.Core.Path.{_≡_};
 ghost use Rattle.passage.specs.Passage.{ticks};

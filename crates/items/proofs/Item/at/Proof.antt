@@ -1,8 +1,8 @@
-use Rattle.writes.proofs.Bytes.{item-at}
+use Rattle.items.proofs.Bytes.{item-at}
 use native.Mathlib.Omega.{arith}
 use borrow.Author.Needs.{needs}
-use Rattle.writes.proofs.items.Item.at.Statement.{statement}
-use Rattle.writes.proofs.items.Item.at.Tie as tie
+use Rattle.items.proofs.Item.at.Statement.{statement}
+use Rattle.items.proofs.Item.at.Tie as tie
 
 returns : tie.Need-returns
 returns c = item-at (c .before .before .before .args .list .now) (c .before .before .before .args .from) _ _ (c .before .before .before .pre) (c .before .two .ensures) (c .eight .ensures)

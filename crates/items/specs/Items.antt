@@ -3,7 +3,7 @@ use Prim.Native.Nat.{ℕ, zero, suc, _/_, _%_, _^_}
 use mathlib.Core.List.{List, [], _∷_}
 use lib.ListN.{take, drop}
 use Rattle.records.specs.Records.{numberOf}
-use Rattle.writes.specs.declared.items.Item.{Item}
+use Rattle.items.specs.declared.Item.{Item}
 
 -- 80 bits, most significant first: address (10), value (8), cycle (62) (02, 2.1)
 unfoldable pub itemIn : List ℕ → Item

@@ -7,7 +7,7 @@ use mathlib.Core.List.{List}
 use lib.ListN.{length, take, drop}
 use Rattle.records.specs.Records.{numberOf}
 use Rattle.records.proofs.Bytes.{bytes-from}
-use Rattle.writes.specs.Items.{itemIn}
+use Rattle.items.specs.Items.{itemIn}
 
 two-parts : (list : List ℕ) (from : ℕ) → from + 10 ≤ length list
     → numberOf (take 10 (drop from list)) ≡ numberOf (take 2 (drop from list)) * 2 ^ 64 + numberOf (take 8 (drop (from + 2) list))

@@ -6,7 +6,7 @@ use time::units::Cycle;
 ghost use mathlib.Core.Path.{_≡_};
 ghost use Prim.Native.Nat.{_+_, _≤_};
 ghost use lib.ListN.{length, take, drop};
-ghost use Rattle.writes.specs.Items.{itemIn};
+ghost use Rattle.items.specs.Items.{itemIn};
 
 // A register's address, the byte to write there, and the cycle.
 pub struct Item {
