@@ -14,6 +14,8 @@ use words::find;
 use words::low8;
 use words::low16;
 use words::skip;
+ghost use mathlib.Core.Path.{_≡_};
+ghost use Rattle.script.specs.Configs.{wireOf, compareOf, thirdOf, captureOf, configOf, presetLine, givenOf, ofKeys, ofPreset};
 
 // A configuration, which counts where the line can be read.
 pub struct Given {
@@ -22,7 +24,9 @@ pub struct Given {
 }
 
 // A pin, or none.
-fn wire(n: u64) -> Wire {
+fn wire(n: u64) -> Wire
+    ensures { λ r. ⌜ r ≡ wireOf n ⌝ }
+{
     Wire {
         present: n < ABSENT,
         pin: low8(n),
@@ -30,7 +34,9 @@ fn wire(n: u64) -> Wire {
 }
 
 // A compare unit, absent with its address.
-fn compare(address: u64, flag: u64, force: u64, pin: u64) -> Compare {
+fn compare(address: u64, flag: u64, force: u64, pin: u64) -> Compare
+    ensures { λ r. ⌜ r ≡ compareOf address flag force pin ⌝ }
+{
     Compare {
         present: address < ABSENT,
         address: low16(address),
@@ -41,7 +47,9 @@ fn compare(address: u64, flag: u64, force: u64, pin: u64) -> Compare {
 }
 
 // Compare C, which is absent or given whole.
-fn third(keys: Keys) -> Compare {
+fn third(keys: Keys) -> Compare
+    ensures { λ r. ⌜ r ≡ thirdOf keys ⌝ }
+{
     let v = keys.values;
     if v[18] == ABSENT {
         compare(ABSENT, 0, 0, ABSENT)
@@ -51,7 +59,9 @@ fn third(keys: Keys) -> Compare {
 }
 
 // The capture unit, absent with its address.
-fn capture(address: u64, flag: u64, pin: u64) -> Capture {
+fn capture(address: u64, flag: u64, pin: u64) -> Capture
+    ensures { λ r. ⌜ r ≡ captureOf address flag pin ⌝ }
+{
     Capture {
         present: address < ABSENT,
         address: low16(address),
@@ -61,7 +71,9 @@ fn capture(address: u64, flag: u64, pin: u64) -> Capture {
 }
 
 // The configuration that the keys say.
-fn config(keys: Keys) -> Config {
+fn config(keys: Keys) -> Config
+    ensures { λ r. ⌜ r ≡ configOf keys ⌝ }
+{
     let v = keys.values;
     Config {
         id: low8(v[0]),
@@ -85,7 +97,9 @@ fn config(keys: Keys) -> Config {
 }
 
 // The keys of a preset's name and of those that follow it.
-fn named(line: &[u8], at: usize) -> Keys {
+fn named(line: &[u8], at: usize) -> Keys
+    ensures { λ r. ⌜ r ≡ presetLine (now (line .entry)) at ⌝ }
+{
     let start = skip(line, at);
     if start == line.len() {
         return Keys::new().stopped(MISSING_WORD);
@@ -100,7 +114,9 @@ fn named(line: &[u8], at: usize) -> Keys {
 
 impl Given {
     // What the keys give.
-    fn of(keys: Keys) -> Given {
+    fn of(keys: Keys) -> Given
+        ensures { λ r. ⌜ r ≡ givenOf keys ⌝ }
+    {
         Given {
             config: config(keys),
             why: keys.why,
@@ -109,11 +125,15 @@ impl Given {
 }
 
 // What a line gives by its keys, from a place on.
-pub fn of_keys(line: &[u8], at: usize) -> Given {
+pub fn of_keys(line: &[u8], at: usize) -> Given
+    ensures { λ r. ⌜ r ≡ ofKeys (now (line .entry)) at ⌝ }
+{
     Given::of(Keys::of(line, at).whole())
 }
 
 // What a line gives by a preset's name and keys, from a place on.
-pub fn of_preset(line: &[u8], at: usize) -> Given {
+pub fn of_preset(line: &[u8], at: usize) -> Given
+    ensures { λ r. ⌜ r ≡ ofPreset (now (line .entry)) at ⌝ }
+{
     Given::of(named(line, at))
 }

@@ -6,9 +6,14 @@ use m328p::timer0;
 use m328p::timer1;
 use m328p::timer2;
 use words::place;
+ghost use mathlib.Core.Path.{_≡_};
+ghost use Rattle.script.specs.Keys.{keysOf};
+ghost use Rattle.script.specs.Presets.{presetOf, m2560Text, olderText, presetKeys};
 
 // The place of a preset's name in their list.
-pub fn preset(word: &[u8]) -> usize {
+pub fn preset(word: &[u8]) -> usize
+    ensures { λ r. ⌜ r ≡ presetOf (now (word .entry)) ⌝ }
+{
     place(
         b"m328p.timer0 m328p.timer1 m328p.timer2 m2560.timer1 m2560.timer3 m2560.timer4 m2560.timer5 m8.timer0 m16.timer0 m16.timer1",
         word,
@@ -16,7 +21,9 @@ pub fn preset(word: &[u8]) -> usize {
 }
 
 // The keys of a timer of the ATmega2560, on the 100-pin TQFP.
-fn m2560(preset: usize) -> Keys {
+fn m2560(preset: usize) -> Keys
+    ensures { λ r. ⌜ r ≡ keysOf (m2560Text preset) 0 ⌝ }
+{
     match preset {
         3 => Keys::of(
             b"id=1 wide=1 layout=split tccra=80 tccrb=81 foc=82 foca=80 focb=40 tcnt=84 ocra=88 ocrb=8A icr=86 tov=1 ocfa=2 ocfb=4 icf=20 pina=24 pinb=25 c=8C:8:26:20 icp=47 t=49 clock=sync group=1 prr=8 sleeprun=0",
@@ -38,7 +45,9 @@ fn m2560(preset: usize) -> Keys {
 }
 
 // The keys of a timer of the ATmega8 or the ATmega16.
-fn older(preset: usize) -> Keys {
+fn older(preset: usize) -> Keys
+    ensures { λ r. ⌜ r ≡ keysOf (olderText preset) 0 ⌝ }
+{
     match preset {
         7 => Keys::of(
             b"id=0 wide=0 layout=single0 tccra=53 tccrb=53 foc=53 foca=0 focb=0 tcnt=52 ocra=- ocrb=- icr=- tov=1 ocfa=0 ocfb=0 icf=0 pina=- pinb=- c=- icp=- t=6 clock=sync group=1 prr=0 sleeprun=0",
@@ -56,7 +65,9 @@ fn older(preset: usize) -> Keys {
 }
 
 // The keys of the preset at a place.
-pub fn keys(preset: usize) -> Keys {
+pub fn keys(preset: usize) -> Keys
+    ensures { λ r. ⌜ r ≡ presetKeys preset ⌝ }
+{
     match preset {
         0 => Keys::saying(timer0()),
         1 => Keys::saying(timer1()),

@@ -22,7 +22,11 @@ use words::low8;
 use words::none;
 use words::place;
 use words::skip;
-ghost use Rattle.scheduler.specs.Scheduler.{Valid};
+ghost use mathlib.Core.Path.{_≡_};
+ghost use Rattle.events.specs.Events.{earliest};
+ghost use Rattle.page.specs.Page.{Puts};
+ghost use Rattle.scheduler.specs.Scheduler.{Valid, held, scheduled as scheduledOf, cycleOf, popped as poppedOf};
+ghost use Rattle.script.specs.Sched.{argumentsOf, byteOf, whenOf, askedOf, untilOf, nextLine, atLine, eventLine, setOf, poppedOf as afterPop, fewerOf, calledOf, unreadOf, schedOf, Leaves};
 
 // A call by its place among the names, with its words.
 struct Asked {
@@ -33,7 +37,9 @@ struct Asked {
 }
 
 // How many words a call has.
-fn arguments(name: usize) -> usize {
+fn arguments(name: usize) -> usize
+    ensures { λ r. ⌜ r ≡ argumentsOf name ⌝ }
+{
     match name {
         0 => 3,
         1..=2 => 2,
@@ -43,7 +49,9 @@ fn arguments(name: usize) -> usize {
 }
 
 // A byte of a call that has a key.
-fn byte_of(line: &[u8], c: Cursor, name: usize) -> Taken {
+fn byte_of(line: &[u8], c: Cursor, name: usize) -> Taken
+    ensures { λ r. ⌜ r ≡ byteOf (now (line .entry)) c name ⌝ }
+{
     match name {
         0..=2 => decimal(line, c, 0xff),
         _ => none(c),
@@ -51,7 +59,9 @@ fn byte_of(line: &[u8], c: Cursor, name: usize) -> Taken {
 }
 
 // The cycle of a call that has one.
-fn cycle_of(line: &[u8], c: Cursor, name: usize) -> Taken {
+fn cycle_of(line: &[u8], c: Cursor, name: usize) -> Taken
+    ensures { λ r. ⌜ r ≡ whenOf (now (line .entry)) c name ⌝ }
+{
     match name {
         0 => decimal(line, c, u64::MAX),
         3 => decimal(line, c, u64::MAX),
@@ -60,7 +70,9 @@ fn cycle_of(line: &[u8], c: Cursor, name: usize) -> Taken {
 }
 
 // Reads what follows the name.
-fn read(line: &[u8], at: usize, name: usize) -> Asked {
+fn read(line: &[u8], at: usize, name: usize) -> Asked
+    ensures { λ r. ⌜ r ≡ askedOf (now (line .entry)) at name ⌝ }
+{
     let start = exactly(line, at, arguments(name));
     let owner = byte_of(line, start, name);
     let tag = byte_of(line, owner.next, name);
@@ -79,7 +91,9 @@ fn read(line: &[u8], at: usize, name: usize) -> Asked {
 }
 
 // Puts a label and a cycle, none where it is the largest.
-fn cycle(page: &mut Page, from: usize, label: &[u8], n: u64) -> usize {
+fn cycle(page: &mut Page, from: usize, label: &[u8], n: u64) -> usize
+    ensures { λ r. ⌜ Puts (now (page .entry)) from (now (page .exit)) r (untilOf (now (label .entry)) n) ⌝ }
+{
     if n < u64::MAX {
         return number(page, from, label, n);
     }
@@ -90,6 +104,7 @@ fn cycle(page: &mut Page, from: usize, label: &[u8], n: u64) -> usize {
 // Puts a scheduler's next cycle.
 fn next(page: &mut Page, at: usize, s: Scheduler) -> usize
     requires { ⌜ Valid s ⌝ }
+    ensures { λ r. ⌜ Puts (now (page .entry)) at (now (page .exit)) r (nextLine s) ⌝ }
 {
     cycle(page, at, b"ok next=", s.next())
 }
@@ -97,6 +112,7 @@ fn next(page: &mut Page, at: usize, s: Scheduler) -> usize
 // Puts the cycle of a key.
 fn scheduled(page: &mut Page, at: usize, s: Scheduler, key: EventKey) -> usize
     requires { ⌜ Valid s ⌝ }
+    ensures { λ r. ⌜ Puts (now (page .entry)) at (now (page .exit)) r (atLine (cycleOf key (held s))) ⌝ }
 {
     let scheduled = s.is_scheduled(key);
     match scheduled {
@@ -106,7 +122,9 @@ fn scheduled(page: &mut Page, at: usize, s: Scheduler, key: EventKey) -> usize
 }
 
 // Puts an event that was due, and the next cycle.
-fn popped(page: &mut Page, from: usize, event: Event, next: u64) -> usize {
+fn popped(page: &mut Page, from: usize, event: Event, next: u64) -> usize
+    ensures { λ r. ⌜ Puts (now (page .entry)) from (now (page .exit)) r (eventLine event next) ⌝ }
+{
     let key = event.key;
     let at = number(page, from, b"ok owner=", key.owner as u64);
     let at = number(page, at, b" tag=", key.tag as u64);
@@ -123,7 +141,7 @@ pub struct Left {
 // Schedules an event.
 fn set(s: Scheduler, asked: Asked, page: &mut Page, at: usize) -> Left
     requires { ⌜ Valid s ⌝ }
-    ensures { λ r. ⌜ Valid (r .scheduler) ⌝ }
+    ensures { λ r. ⌜ Leaves (now (page .entry)) at (now (page .exit)) r (setOf (scheduledOf (asked .key) (asked .cycle) s)) ⌝ }
 {
     let setting = s.at(asked.key, asked.cycle);
     let scheduler = setting.scheduler;
@@ -136,11 +154,11 @@ fn set(s: Scheduler, asked: Asked, page: &mut Page, at: usize) -> Left
 }
 
 // Takes the earliest event that is due.
-fn pop(s: Scheduler, now: u64, page: &mut Page, at: usize) -> Left
+fn pop(s: Scheduler, cycle: u64, page: &mut Page, at: usize) -> Left
     requires { ⌜ Valid s ⌝ }
-    ensures { λ r. ⌜ Valid (r .scheduler) ⌝ }
+    ensures { λ r. ⌜ Leaves (now (page .entry)) at (now (page .exit)) r (afterPop (poppedOf cycle s)) ⌝ }
 {
-    let popping = s.pop_due(now);
+    let popping = s.pop_due(cycle);
     let scheduler = popping.scheduler;
     let next = scheduler.next();
     let due = popping.due;
@@ -154,7 +172,7 @@ fn pop(s: Scheduler, now: u64, page: &mut Page, at: usize) -> Left
 // Takes a scheduler that has fewer events, and puts its next cycle.
 fn fewer(s: Scheduler, page: &mut Page, at: usize) -> Left
     requires { ⌜ Valid s ⌝ }
-    ensures { λ r. ⌜ Valid (r .scheduler) ⌝ }
+    ensures { λ r. ⌜ Leaves (now (page .entry)) at (now (page .exit)) r (fewerOf s) ⌝ }
 {
     let at = next(page, at, s);
     Left { scheduler: s, at }
@@ -163,7 +181,7 @@ fn fewer(s: Scheduler, page: &mut Page, at: usize) -> Left
 // Hands a call to the scheduler, and puts its answer.
 fn call(s: Scheduler, asked: Asked, page: &mut Page, at: usize) -> Left
     requires { ⌜ Valid s ⌝ }
-    ensures { λ r. ⌜ Valid (r .scheduler) ⌝ }
+    ensures { λ r. ⌜ Leaves (now (page .entry)) at (now (page .exit)) r (calledOf asked s) ⌝ }
 {
     let name = asked.name;
     match name {
@@ -181,7 +199,7 @@ fn call(s: Scheduler, asked: Asked, page: &mut Page, at: usize) -> Left
 // Leaves the scheduler as it is, and puts why the nth line cannot be read.
 fn unread(s: Scheduler, page: &mut Page, from: usize, nth: u64, why: u8) -> Left
     requires { ⌜ Valid s ⌝ }
-    ensures { λ r. ⌜ Valid (r .scheduler) ⌝ }
+    ensures { λ r. ⌜ Leaves (now (page .entry)) from (now (page .exit)) r (unreadOf s nth why) ⌝ }
 {
     let at = unreadable(page, from, nth, why);
     Left { scheduler: s, at }
@@ -197,7 +215,7 @@ pub fn sched_line(
     at: usize,
 ) -> Left
     requires { ⌜ Valid s ⌝ }
-    ensures { λ r. ⌜ Valid (r .scheduler) ⌝ }
+    ensures { λ r. ⌜ Leaves (now (page .entry)) from (now (page .exit)) r (schedOf s nth (now (line .entry)) at) ⌝ }
 {
     let start = skip(line, at);
     if start == line.len() {

@@ -1,0 +1,4 @@
+pub mod Keys
+pub mod Presets
+pub mod Configs
+pub mod Sched
