@@ -26,7 +26,7 @@ pub fold-rest : {A : Type 0} (f : A → ℕ → A) (a : A) (l : List ℕ) (i : �
 fold-rest f a l i = ap (foldl f a) (sym (take-append-drop i l)) ∙ foldl-append f a (take i l) (drop i l)
 
 -- a test of every byte, once it failed
-fold-failed : (p : ℕ → Bool) (l : List ℕ) → foldl (λ (ok : Bool) (b : ℕ). ok && p b) false l ≡ false
+pub fold-failed : (p : ℕ → Bool) (l : List ℕ) → foldl (λ (ok : Bool) (b : ℕ). ok && p b) false l ≡ false
 fold-failed p [] = refl
 fold-failed p (b ∷ bs) = fold-failed p bs
 

@@ -9,7 +9,7 @@ use mathlib.Core.Bool.{Bool, true, false, cond, not, Bool·beq, _&&_}
 use mathlib.Core.List.{List, [], _∷_}
 use lib.Dec.{eqb}
 use lib.ListN.{length, take, drop, getD, length-drop, drop-of-length-le}
-use lib.Seq.{drop-cons, drop-drop, getD-drop, drop-length, drop-nil}
+use lib.Seq.{take-all, drop-cons, drop-drop, getD-drop, drop-length, drop-nil}
 use Rattle.words.specs.Words.{before, firstFrom, sought, findOf, skipOf, words, begun, onto, same, placeIn}
 
 -- the test as the code has it
@@ -83,6 +83,10 @@ module _ (p : ℕ → Bool) where
           let m : length text ≤ from = omega arith in
           let d : drop from text ≡ [] = drop-of-length-le text m in
           rw (e, drop-length text, d) (sym (drop-nil (before p [])))
+
+-- what stands in a text from a place on
+pub rest-of : (l : List ℕ) (n : ℕ) → take (length l - n) (drop n l) ≡ drop n l
+rest-of l n = take-all (length l - n) (drop n l) (omega (arith, length-drop n l))
 
 -- ---- words
 
@@ -172,6 +176,10 @@ pub same-refl : (l : List ℕ) → same l l ≡ true
 unfolding same
 same-refl [] = refl
 same-refl (b ∷ bs) = rw (eq-eqb b b refl) (same-refl bs)
+
+-- texts that are the same
+pub same-yes : (a b : List ℕ) → a ≡ b → same a b ≡ true
+same-yes a b e = rw e (same-refl b)
 
 -- texts that are not the same
 pub same-not : (a b : List ℕ) → (a ≡ b → ⊥) → same a b ≡ false

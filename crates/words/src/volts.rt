@@ -8,8 +8,9 @@ use crate::digit;
 use crate::find;
 use crate::unread;
 ghost use mathlib.Core.Path.{_≡_};
-ghost use Prim.Native.Nat.{_<_, _^_};
+ghost use Prim.Native.Nat.{_<_, _≤_, _^_};
 ghost use lib.Ieee.{toBits, binary64};
+ghost use Rattle.words.specs.Decimals.{badOf, nearest, plainOf, negatedOf, signedOf, voltsOf, roomedOf, digitsOf, quotientOf};
 
 // Below this, one more digit leaves a number below 10^15.
 const ROOM: u64 = 100_000_000_000_000;
@@ -23,7 +24,7 @@ pub struct Volts {
 // A number with one more digit, where it has room for it.
 fn longer(value: u64, d: u64) -> u64
     requires { ⌜ (value < 10 ^ 15) × (d < 10) ⌝ }
-    ensures { λ r. ⌜ r < 10 ^ 15 ⌝ }
+    ensures { λ r. ⌜ (r < 10 ^ 15) × (r ≡ roomedOf value d) ⌝ }
 {
     if value < ROOM { value * 10 + d } else { value }
 }
@@ -31,7 +32,7 @@ fn longer(value: u64, d: u64) -> u64
 // A number with the digits of a word after its own, which count to at most 15 in all.
 fn digits(word: &[u8], before: u64) -> Read
     requires { ⌜ before < 10 ^ 15 ⌝ }
-    ensures { λ r. ⌜ r .value < 10 ^ 15 ⌝ }
+    ensures { λ r. ⌜ (r .value < 10 ^ 15) × (r ≡ digitsOf (now (word .entry)) before) ⌝ }
 {
     if word.len() == 0 {
         return unread(MALFORMED);
@@ -50,7 +51,10 @@ fn digits(word: &[u8], before: u64) -> Read
 }
 
 // A power of ten, of which an f64 holds these exactly.
-fn power(n: usize) -> f64 {
+fn power(n: usize) -> f64
+    requires { ⌜ n ≤ 15 ⌝ }
+    ensures { λ r. ⌜ r ≡ nearest (10 ^ n) 1 ⌝ }
+{
     match n {
         0 => 1.0,
         1 => 10.0,
@@ -72,12 +76,17 @@ fn power(n: usize) -> f64 {
 }
 
 // A word that cannot be read as volts.
-fn bad(why: u8) -> Volts {
+fn bad(why: u8) -> Volts
+    ensures { λ r. ⌜ r ≡ badOf why ⌝ }
+{
     Volts { value: 0.0, why }
 }
 
 // Digits over a power of ten, or why there are none.
-fn quotient(r: Read, all: usize, places: usize) -> Volts {
+fn quotient(r: Read, all: usize, places: usize) -> Volts
+    requires { ⌜ (r .value < 10 ^ 15) × (places ≤ all) ⌝ }
+    ensures { λ v. ⌜ v ≡ quotientOf r all places ⌝ }
+{
     if r.why != FINE {
         return bad(r.why);
     }
@@ -91,7 +100,9 @@ fn quotient(r: Read, all: usize, places: usize) -> Volts {
 }
 
 // A word of digits, with a point among them or not.
-fn plain(word: &[u8]) -> Volts {
+fn plain(word: &[u8]) -> Volts
+    ensures { λ r. ⌜ r ≡ plainOf (now (word .entry)) ⌝ }
+{
     let point = find(word, 0, b'.');
     let whole = digits(&word[0..point], 0);
     if point == word.len() {
@@ -106,15 +117,34 @@ fn plain(word: &[u8]) -> Volts {
 }
 
 // The volts of the other sign.
-fn negated(v: Volts) -> Volts {
+fn negated(v: Volts) -> Volts
+    ensures { λ r. ⌜ r ≡ negatedOf v ⌝ }
+{
     Volts {
         value: -v.value,
         why: v.why,
     }
 }
 
+// A word of digits with a sign or without.
+fn signed(word: &[u8]) -> Volts
+    ensures { λ r. ⌜ r ≡ signedOf (now (word .entry)) ⌝ }
+{
+    if word.len() == 0 {
+        return bad(MALFORMED);
+    }
+    let sign = word[0];
+    match sign {
+        b'+' => plain(&word[1..]),
+        b'-' => negated(plain(&word[1..])),
+        _ => plain(word),
+    }
+}
+
 // A word as volts.
-pub fn volts_of(word: &[u8]) -> Volts {
+pub fn volts_of(word: &[u8]) -> Volts
+    ensures { λ r. ⌜ r ≡ voltsOf (now (word .entry)) ⌝ }
+{
     if check::same(word, b"nan") {
         return Volts {
             value: 0.0 / 0.0,
@@ -133,15 +163,7 @@ pub fn volts_of(word: &[u8]) -> Volts {
             why: FINE,
         };
     }
-    if word.len() == 0 {
-        return bad(MALFORMED);
-    }
-    let sign = word[0];
-    match sign {
-        b'+' => plain(&word[1..]),
-        b'-' => negated(plain(&word[1..])),
-        _ => plain(word),
-    }
+    signed(word)
 }
 
 // The bits of an f64, in which minus zero and the last place show; of a NaN always the same.
