@@ -2,3 +2,4 @@ pub mod Lines
 pub mod Reading
 pub mod Naming
 pub mod Asking
+pub mod Pinning

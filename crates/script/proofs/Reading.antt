@@ -1,32 +1,17 @@
--- Laws of the keys that a line gives, a word at a time.
+-- Laws of a configuration's keys: the parts of compare C, the keys that are missing, and those of another.
 use Prim.Native.Nat.{ℕ, zero, suc, _+_, _-_, _≤_, _<_}
 use native.Mathlib.Omega.{arith}
-use native.Mathlib.Numerals.{add-one}
-use mathlib.Core.Path.{_≡_, refl, sym, ap, ap₂, _∙_}
+use mathlib.Core.Path.{_≡_, refl, ap, ap₂}
 use mathlib.Core.Bool.{Bool, true, false, cond, _||_}
 use mathlib.Core.List.{List, [], _∷_}
-use borrow.Author.Tests.{lt-ltb, le-ltb, eq-eqb, ne-eqb}
+use borrow.Author.Tests.{eq-eqb, ne-eqb}
 use lib.Dec.{eqb}
-use lib.ListN.{length, take, drop, getD, set, length-drop}
-use lib.Seq.{take-all}
-use Rattle.words.specs.declared.Pair.{Pair}
-use Rattle.words.specs.declared.Read.{Read}
-use Rattle.words.specs.Words.{same, findOf, splitOf}
+use lib.ListN.{length, take, getD, set}
+use Rattle.words.specs.Words.{findOf}
 use Rattle.words.specs.Numbers.{between}
-use Rattle.words.proofs.Places.{same-refl}
 use Rattle.words.proofs.Numerals.{fold-more}
 use Rattle.script.specs.declared.keys.Keys.{Keys}
-use Rattle.script.specs.Keys.{missing, stoppedOf, setOf, valueOf, occurs, afterOf, partsFrom, compareOf, keyNames, splitWith, withOf, lacks, firstOf, filled}
-
--- ---- tests
-
--- texts that are the same
-pub same-yes : (a b : List ℕ) → a ≡ b → same a b ≡ true
-same-yes a b e = rw e (same-refl b)
-
--- what stands in a text from a place on
-pub rest-of : (l : List ℕ) (n : ℕ) → take (length l - n) (drop n l) ≡ drop n l
-rest-of l n = take-all (length l - n) (drop n l) (omega (arith, length-drop n l))
+use Rattle.script.specs.Keys.{missing, setOf, valueOf, occurs, afterOf, partsFrom, lacks, firstOf, filled}
 
 -- keys by their parts
 pub keys-are : {k : Keys} {values : List ℕ} {why : ℕ} → k .values ≡ values → k .why ≡ why → k ≡ record { values = values; why = why }
@@ -52,39 +37,6 @@ parts-more k word key at end h e =
 pub parts-all : (k : Keys) (word : List ℕ) (key at : ℕ) → 29 ≤ key → partsFrom (29 - key) k word key at ≡ k
 unfolding partsFrom
 parts-all k word key at h = let n : 29 - key ≡ 0 = omega arith in rw n
-
--- ---- a word KEY=VALUE
-
-module _ (k : Keys) (word : List ℕ) where
-  -- after the reading stopped
-  pub with-stopped : (k .why ≡ 0 → ⊥) → withOf k word ≡ k
-  unfolding withOf
-  with-stopped h = rw (ne-eqb (k .why) 0 h)
-
-  module _ (p : Pair) (fine : k .why ≡ 0) (e : p ≡ splitOf keyNames word) where
-    with-split : withOf k word ≡ splitWith k word p
-    unfolding withOf
-    with-split = rw (eq-eqb (k .why) 0 fine, e)
-
-    -- an unknown key
-    pub with-unknown : 24 < p .key → withOf k word ≡ stoppedOf k 2
-    unfolding splitWith
-    with-unknown h = with-split ∙ rw (lt-ltb 24 (p .key) h)
-
-    -- a key that stands twice
-    pub with-twice : p .key ≤ 24 → (getD (k .values) (p .key) 0 ≡ missing → ⊥) → withOf k word ≡ stoppedOf k 5
-    unfolding splitWith
-    with-twice h t = with-split ∙ rw (le-ltb 24 (p .key) h, ne-eqb (getD (k .values) (p .key) 0) missing t)
-
-    -- compare C
-    pub with-compare : p .key ≤ 24 → getD (k .values) (p .key) 0 ≡ missing → p .key ≡ 18 → withOf k word ≡ compareOf k (drop (p .value) word)
-    unfolding splitWith
-    with-compare h t c = with-split ∙ rw (le-ltb 24 (p .key) h, eq-eqb (getD (k .values) (p .key) 0) missing t, eq-eqb (p .key) 18 c)
-
-    -- any other
-    pub with-value : p .key ≤ 24 → getD (k .values) (p .key) 0 ≡ missing → (p .key ≡ 18 → ⊥) → withOf k word ≡ setOf k (p .key) (valueOf (p .key) (drop (p .value) word))
-    unfolding splitWith
-    with-value h t c = with-split ∙ rw (le-ltb 24 (p .key) h, eq-eqb (getD (k .values) (p .key) 0) missing t, ne-eqb (p .key) 18 c)
 
 -- ---- keys that are not given
 

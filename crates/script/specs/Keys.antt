@@ -7,11 +7,11 @@ use lib.ListN.{length, take, drop, getD, set, replicate}
 use Rattle.config.specs.declared.Config.{Config}
 use Rattle.config.specs.declared.Wire.{Wire}
 use Rattle.figures.specs.Figures.{text}
-use Rattle.words.specs.declared.Pair.{Pair}
 use Rattle.words.specs.declared.Read.{Read}
-use Rattle.words.specs.Words.{findOf, words, same, placeOf, splitOf}
+use Rattle.words.specs.Words.{findOf, same, placeOf}
 use Rattle.words.specs.Numbers.{between, numeralOf, unreadOf}
 use Rattle.script.specs.declared.keys.Keys.{Keys}
+use Rattle.script.specs.Pairs.{Kept, stepped, gathered}
 
 -- ---- values
 
@@ -92,25 +92,29 @@ compareOf k word =
     cond (same word (text "-")) (setOf k 18 (fineOf absent))
     (cond (eqb (occurs 58 word) 3) (partsOf k word) (stoppedOf k 6))
 
+-- a key with its value
+unfoldable pub takenOf : Keys → ℕ → List ℕ → Keys
+takenOf k key word = cond (eqb key 18) (compareOf k word) (setOf k key (valueOf key word))
+
 -- the keys in their order
-abbrev pub keyNames : List ℕ
-keyNames = text "id wide layout tccra tccrb foc foca focb tcnt ocra ocrb icr tov ocfa ocfb icf pina pinb c icp t clock group prr sleeprun"
+abbrev pub configKeys : Kept Keys
+configKeys = record {
+  names = text "id wide layout tccra tccrb foc foca focb tcnt ocra ocrb icr tov ocfa ocfb icf pina pinb c icp t clock group prr sleeprun";
+  last = 24;
+  missing = missing;
+  why = λ k. k .why;
+  values = λ k. k .values;
+  stopped = stoppedOf;
+  taken = takenOf;
+}
 
--- a key and its value: "unknown key" is 2, "a key that stands twice" 5
-unfoldable pub splitWith : Keys → List ℕ → Pair → Keys
-splitWith k word p =
-    cond (ltb 24 (p .key)) (stoppedOf k 2)
-    (cond (eqb (getD (k .values) (p .key) 0) missing)
-    (cond (eqb (p .key) 18) (compareOf k (drop (p .value) word)) (setOf k (p .key) (valueOf (p .key) (drop (p .value) word))))
-    (stoppedOf k 5))
+-- one word more
+abbrev pub withOf : Keys → List ℕ → Keys
+withOf = stepped configKeys
 
--- one word more, where nothing stopped before it
-unfoldable pub withOf : Keys → List ℕ → Keys
-withOf k word = cond (eqb (k .why) 0) (splitWith k word (splitOf keyNames word)) k
-
--- "each key in turn": the keys of a text from a place on
+-- the keys of a text from a place on
 abbrev pub keysOf : List ℕ → ℕ → Keys
-keysOf line from = foldl withOf noKeys (words (drop from line))
+keysOf line from = gathered configKeys noKeys line from
 
 -- is a key not given
 unfoldable pub lacks : List ℕ → Bool

@@ -1,4 +1,6 @@
+pub mod Pairs
 pub mod Keys
 pub mod Presets
 pub mod Configs
 pub mod Sched
+pub mod PinLines

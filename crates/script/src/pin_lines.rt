@@ -21,7 +21,10 @@ use words::skip;
 use words::split;
 use words::volts::pattern;
 use words::volts::volts_of;
+ghost use mathlib.Core.Path.{_≡_};
 ghost use Prim.Native.Nat.{_<_};
+ghost use Rattle.page.specs.Page.{Puts};
+ghost use Rattle.script.specs.PinLines.{noKeys, stoppedOf, suppliedOf, drivenOf, connectedOf, bitOf, withOf, keysOf, driveOf, pinOf, resolvedLine, answerOf, pinLine};
 
 // A key that was not given: its lowest eight bits are the 0 that it stands for.
 const MISSING: u64 = 0x100;
@@ -36,7 +39,9 @@ struct Keys {
 
 impl Keys {
     // Before any key.
-    fn new() -> Keys {
+    fn new() -> Keys
+        ensures { λ r. ⌜ r ≡ noKeys ⌝ }
+    {
         Keys {
             values: [MISSING; 13],
             vcc: 5.0,
@@ -46,13 +51,17 @@ impl Keys {
     }
 
     // Stops the reading.
-    fn stopped(mut self, why: u8) -> Keys {
+    fn stopped(mut self, why: u8) -> Keys
+        ensures { λ r. ⌜ r ≡ stoppedOf self why ⌝ }
+    {
         self.why = why;
         self
     }
 
     // The keys with vcc.
-    fn supplied(mut self, word: &[u8]) -> Keys {
+    fn supplied(mut self, word: &[u8]) -> Keys
+        ensures { λ r. ⌜ r ≡ suppliedOf self (now (word .entry)) ⌝ }
+    {
         let v = volts_of(word);
         self.values[0] = 0;
         self.vcc = v.value;
@@ -61,7 +70,9 @@ impl Keys {
     }
 
     // The keys with the volts outside.
-    fn driven(mut self, word: &[u8]) -> Keys {
+    fn driven(mut self, word: &[u8]) -> Keys
+        ensures { λ r. ⌜ r ≡ drivenOf self (now (word .entry)) ⌝ }
+    {
         let v = volts_of(word);
         self.values[2] = 0;
         self.volts = v.value;
@@ -70,7 +81,9 @@ impl Keys {
     }
 
     // The keys with what the outside connects.
-    fn connected(mut self, word: &[u8]) -> Keys {
+    fn connected(mut self, word: &[u8]) -> Keys
+        ensures { λ r. ⌜ r ≡ connectedOf self (now (word .entry)) ⌝ }
+    {
         let n = place(b"float low high analog", word);
         if 3 < n {
             return self.stopped(UNKNOWN_NAME);
@@ -82,6 +95,7 @@ impl Keys {
     // The keys with a bit.
     fn set(mut self, key: usize, word: &[u8]) -> Keys
         requires { ⌜ key < 13 ⌝ }
+        ensures { λ r. ⌜ r ≡ bitOf self key (now (word .entry)) ⌝ }
     {
         let r = numeral(word, 10, 0xff);
         self.values[key] = r.value;
@@ -90,7 +104,9 @@ impl Keys {
     }
 
     // The keys with one more KEY=VALUE.
-    fn with(self, word: &[u8]) -> Keys {
+    fn with(self, word: &[u8]) -> Keys
+        ensures { λ r. ⌜ r ≡ withOf self (now (word .entry)) ⌝ }
+    {
         if self.why != FINE {
             return self;
         }
@@ -115,7 +131,9 @@ impl Keys {
     }
 
     // The keys of a line from a place on.
-    fn of(line: &[u8], from: usize) -> Keys {
+    fn of(line: &[u8], from: usize) -> Keys
+        ensures { λ r. ⌜ r ≡ keysOf (now (line .entry)) from ⌝ }
+    {
         let mut keys = Keys::new();
         let mut at = skip(line, from);
         while at < line.len() {
@@ -127,7 +145,9 @@ impl Keys {
     }
 
     // What the outside drives.
-    fn drive(self) -> Drive {
+    fn drive(self) -> Drive
+        ensures { λ r. ⌜ r ≡ driveOf self ⌝ }
+    {
         let v = self.values;
         let ext = v[1];
         match ext {
@@ -139,7 +159,9 @@ impl Keys {
     }
 
     // The pin. A reserved that is no bit goes in as the level, to be refused as any other.
-    fn pin(self) -> Pin {
+    fn pin(self) -> Pin
+        ensures { λ r. ⌜ r ≡ pinOf self ⌝ }
+    {
         let v = self.values;
         let reserved = low8(v[9]);
         Pin {
@@ -159,7 +181,9 @@ impl Keys {
 }
 
 // Puts a resolved pin.
-fn resolved(page: &mut Page, from: usize, pin: Pin, changed: bool, contention: bool) -> usize {
+fn resolved(page: &mut Page, from: usize, pin: Pin, changed: bool, contention: bool) -> usize
+    ensures { λ r. ⌜ Puts (now (page .entry)) from (now (page .exit)) r (resolvedLine pin changed contention) ⌝ }
+{
     let at = number(page, from, b"ok level=", pin.level as u64);
     let at = sixteen(page, at, b" volts=", pattern(pin.volts));
     let at = bit(page, at, b" changed=", changed);
@@ -167,7 +191,9 @@ fn resolved(page: &mut Page, from: usize, pin: Pin, changed: bool, contention: b
 }
 
 // Puts what a pin resolves to.
-fn answer(page: &mut Page, at: usize, pin: Pin, drive: Drive, vcc: f64) -> usize {
+fn answer(page: &mut Page, at: usize, pin: Pin, drive: Drive, vcc: f64) -> usize
+    ensures { λ r. ⌜ Puts (now (page .entry)) at (now (page .exit)) r (answerOf pin drive vcc) ⌝ }
+{
     let to = pin.resolve(drive, vcc);
     let opposed = pin.contention(drive);
     match to {
@@ -180,7 +206,9 @@ fn answer(page: &mut Page, at: usize, pin: Pin, drive: Drive, vcc: f64) -> usize
 }
 
 // Answers a pin line, the nth of the script, from the place after its name; yields the place after the answer.
-pub fn pin_line(page: &mut Page, from: usize, nth: u64, line: &[u8], at: usize) -> usize {
+pub fn pin_line(page: &mut Page, from: usize, nth: u64, line: &[u8], at: usize) -> usize
+    ensures { λ r. ⌜ Puts (now (page .entry)) from (now (page .exit)) r (pinLine nth (now (line .entry)) at) ⌝ }
+{
     let keys = Keys::of(line, at);
     if keys.why != FINE {
         return unreadable(page, from, nth, keys.why);

@@ -1,7 +1,6 @@
 -- `script::keys::optional` meets its contract.
 use Rattle.script.specs.Keys.{optionalOf}
-use Rattle.script.proofs.Reading.{same-yes}
-use Rattle.words.proofs.Places.{same-not}
+use Rattle.words.proofs.Places.{same-not, same-yes}
 use Rattle.figures.specs.Figures.{codes}
 use mathlib.Core.Bool.{false≢true}
 use mathlib.Core.Path.{sym, _∙_}

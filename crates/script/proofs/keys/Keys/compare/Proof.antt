@@ -1,7 +1,6 @@
 -- `script::keys::Keys::compare` meets its contract.
 use Rattle.script.specs.Keys.{setOf, compareOf}
-use Rattle.script.proofs.Reading.{same-yes}
-use Rattle.words.proofs.Places.{same-not}
+use Rattle.words.proofs.Places.{same-not, same-yes}
 use Rattle.figures.specs.Figures.{codes}
 use borrow.Author.Tests.{eq-eqb, ne-eqb}
 use mathlib.Core.Bool.{false≢true}

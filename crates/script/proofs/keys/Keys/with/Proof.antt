@@ -1,6 +1,8 @@
 -- `script::keys::Keys::with` meets its contract.
-use Rattle.script.specs.Keys.{setOf, compareOf, valueOf}
-use Rattle.script.proofs.Reading.{rest-of, with-stopped, with-unknown, with-twice, with-compare, with-value}
+use Rattle.script.specs.Keys.{setOf, compareOf, valueOf, takenOf, configKeys}
+use Rattle.words.proofs.Places.{rest-of}
+use Rattle.script.proofs.Lines.{step-stopped, step-unknown, step-twice, step-taken}
+use borrow.Author.Tests.{eq-eqb, ne-eqb}
 use Rattle.figures.specs.Figures.{codes}
 use mathlib.Core.Path.{sym, ap, _∙_}
 use borrow.Author.Needs.{needs}
@@ -10,31 +12,31 @@ use Rattle.script.proofs.keys.Keys.with.Tie as tie
 returns : tie.Need-returns
 returns c =
     let a = c .before .before .args in
-    sym (with-stopped (a .t1) (a .word .now) (c .if1 .taken))
+    sym (step-stopped configKeys (a .t1) (a .word .now) (c .if1 .taken))
 
 returns-2 : tie.Need-returns-2
 unfolding codes
 returns-2 c =
     let a = c .before .before .before .before .before .before .args in
-    c .stopped .ensures ∙ sym (with-unknown (a .t1) (a .word .now) (c .before .before .split .result) (c .before .before .before .before .if1 .left) (c .before .before .split .ensures .1) (c .before .if2 .taken))
+    c .stopped .ensures ∙ sym (step-unknown configKeys (a .t1) (a .word .now) (c .before .before .split .result) (c .before .before .before .before .if1 .left) (c .before .before .split .ensures .1) (c .before .if2 .taken))
 
 returns-3 : tie.Need-returns-3
 unfolding codes
 returns-3 c =
     let a = c .before .before .before .before .before .before .before .before .args in
-    c .stopped2 .ensures ∙ sym (with-twice (a .t1) (a .word .now) (c .before .before .before .before .split .result) (c .before .before .before .before .before .before .if1 .left) (c .before .before .before .before .split .ensures .1) (c .before .before .before .if2 .left) (c .before .if3 .taken))
+    c .stopped2 .ensures ∙ sym (step-twice configKeys (a .t1) (a .word .now) (c .before .before .before .before .split .result) (c .before .before .before .before .before .before .if1 .left) (c .before .before .before .before .split .ensures .1) (c .before .before .before .if2 .left) (c .before .if3 .taken))
 
 returns-4 : tie.Need-returns-4
-unfolding codes
+unfolding codes takenOf
 returns-4 c =
     let a = c .before .before .before .before .before .before .before .before .before .before .args in
-    c .compare .ensures ∙ ap (compareOf (a .t1)) (rest-of (a .word .now) (c .before .before .before .before .before .before .split .result .value)) ∙ sym (with-compare (a .t1) (a .word .now) (c .before .before .before .before .before .before .split .result) (c .before .before .before .before .before .before .before .before .if1 .left) (c .before .before .before .before .before .before .split .ensures .1) (c .before .before .before .before .before .if2 .left) (c .before .before .before .if3 .left) (c .before .before .if4 .taken))
+    c .compare .ensures ∙ ap (compareOf (a .t1)) (rest-of (a .word .now) (c .before .before .before .before .before .before .split .result .value)) ∙ sym (step-taken configKeys (a .t1) (a .word .now) (c .before .before .before .before .before .before .split .result) (c .before .before .before .before .before .before .before .before .if1 .left) (c .before .before .before .before .before .before .split .ensures .1) (c .before .before .before .before .before .if2 .left) (c .before .before .before .if3 .left) ∙ rw (eq-eqb (c .before .before .before .before .before .before .split .result .key) 18 (c .before .before .if4 .taken)))
 
 returns-5 : tie.Need-returns-5
-unfolding codes
+unfolding codes takenOf
 returns-5 c =
     let a = c .before .before .before .before .before .before .before .before .before .before .before .args in
-    c .set .ensures ∙ ap (setOf (a .t1) (c .before .before .before .before .before .before .before .split .result .key)) (c .before .value .ensures ∙ ap (valueOf (c .before .before .before .before .before .before .before .split .result .key)) (rest-of (a .word .now) (c .before .before .before .before .before .before .before .split .result .value))) ∙ sym (with-value (a .t1) (a .word .now) (c .before .before .before .before .before .before .before .split .result) (c .before .before .before .before .before .before .before .before .before .if1 .left) (c .before .before .before .before .before .before .before .split .ensures .1) (c .before .before .before .before .before .before .if2 .left) (c .before .before .before .before .if3 .left) (c .before .before .before .if4 .left))
+    c .set .ensures ∙ ap (setOf (a .t1) (c .before .before .before .before .before .before .before .split .result .key)) (c .before .value .ensures ∙ ap (valueOf (c .before .before .before .before .before .before .before .split .result .key)) (rest-of (a .word .now) (c .before .before .before .before .before .before .before .split .result .value))) ∙ sym (step-taken configKeys (a .t1) (a .word .now) (c .before .before .before .before .before .before .before .split .result) (c .before .before .before .before .before .before .before .before .before .if1 .left) (c .before .before .before .before .before .before .before .split .ensures .1) (c .before .before .before .before .before .before .if2 .left) (c .before .before .before .before .if3 .left) ∙ rw (ne-eqb (c .before .before .before .before .before .before .before .split .result .key) 18 (c .before .before .before .if4 .left)))
 
 pub with-spec : {M : Type 1} → statement M
 with-spec =
