@@ -3,3 +3,4 @@ pub mod Reading
 pub mod Naming
 pub mod Asking
 pub mod Pinning
+pub mod Readings

@@ -1,7 +1,7 @@
 -- Laws of lines: a loop over a line's words is a fold of its step, `Folding` its invariant, and the step of a word KEY=VALUE.
 use Prim.Native.Nat.{ℕ, _+_, _-_, _≤_, _<_}
-use mathlib.Core.Path.{_≡_, refl, sym, ap, _∙_}
-use mathlib.Core.List.{List, [], _∷_, foldl}
+use mathlib.Core.Path.{_≡_, sym, ap, _∙_}
+use mathlib.Core.List.{List, foldl}
 use borrow.Author.Tests.{lt-ltb, le-ltb, eq-eqb, ne-eqb}
 use lib.ListN.{length, take, drop, getD}
 use Rattle.words.specs.declared.Pair.{Pair}

@@ -4,3 +4,4 @@ pub mod Presets
 pub mod Configs
 pub mod Sched
 pub mod PinLines
+pub mod Readings

@@ -23,7 +23,6 @@ use words::none;
 use words::place;
 use words::skip;
 ghost use mathlib.Core.Path.{_≡_};
-ghost use Rattle.events.specs.Events.{earliest};
 ghost use Rattle.page.specs.Page.{Puts};
 ghost use Rattle.scheduler.specs.Scheduler.{Valid, held, scheduled as scheduledOf, cycleOf, popped as poppedOf};
 ghost use Rattle.script.specs.Sched.{argumentsOf, byteOf, whenOf, askedOf, untilOf, nextLine, atLine, eventLine, setOf, poppedOf as afterPop, fewerOf, calledOf, unreadOf, schedOf, Leaves};

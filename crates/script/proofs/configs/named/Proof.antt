@@ -3,7 +3,6 @@ use Rattle.script.proofs.Naming.{preset-missing, preset-unknown, preset
 use Rattle.script.specs.Keys.{stoppedOf, overOf}
 use Rattle.script.specs.declared.keys.Keys.{Keys}
 use mathlib.Core.Path.{sym, ap, ap₂, _∙_}
-use Prim.Native.Nat.{ℕ}
 use borrow.Author.Needs.{needs}
 use Rattle.script.proofs.configs.named.Statement.{statement}
 use Rattle.script.proofs.configs.named.Tie as tie

@@ -6,7 +6,7 @@ use Rattle.words.specs.Words.{words}
 use lib.ListN.{drop, length}
 use mathlib.Core.List.{foldl}
 use mathlib.Core.Path.{ap, _∙_}
-use Prim.Native.Nat.{ℕ, _-_}
+use Prim.Native.Nat.{_-_}
 use Rattle.script.specs.Keys.{withOf}
 use Rattle.script.proofs.keys.Keys.of.Statement.{statement}
 use Rattle.script.proofs.keys.Keys.of.Tie as tie

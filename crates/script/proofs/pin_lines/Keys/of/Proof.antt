@@ -7,7 +7,7 @@ use lib.ListN.{length, drop}
 use borrow.Author.Needs.{needs}
 use mathlib.Core.List.{foldl}
 use mathlib.Core.Path.{ap, _∙_}
-use Prim.Native.Nat.{ℕ, _-_}
+use Prim.Native.Nat.{_-_}
 use Rattle.script.proofs.pin_lines.Keys.of.Statement.{statement}
 use Rattle.script.proofs.pin_lines.Keys.of.Tie as tie
 
