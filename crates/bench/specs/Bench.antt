@@ -11,7 +11,7 @@ use Rattle.oscillator.specs.State.{Valid as Watchdog·Valid}
 
 -- the premises of the calls, and that the list of items has room for what it holds
 pub record Sound (b : Bench) : Type 0 where
-  pub timer : Valid (b .timer)
+  pub timer : Valid (b .socket .timer)
   pub watchdog : Watchdog·Valid (b .watchdog)
   pub scheduler : Scheduler·Valid (b .scheduler)
   pub asked : b .asked .size ≤ 4096

@@ -14,6 +14,7 @@ use page::number;
 use page::text;
 use page::unreadable;
 use scheduler::Scheduler;
+use timer_lines::socket::Socket;
 use words::FINE;
 ghost use Rattle.bench.specs.Bench.{Sound};
 
@@ -22,12 +23,11 @@ pub struct Doors {
     pub set: Set,
 }
 
-// The timer counts once a configuration was accepted, the watchdog and the board, which stands beside, once there is a new one. asked is what a
+// The watchdog counts once there is a new one, and so does the board, which stands beside. asked is what a
 // line orders of the board, items how many the list holds, file the descriptor that records go to, whose these are. line is the line's number, held
 // its bytes so far, at the page's.
 pub struct Bench {
-    pub ready: bool,
-    pub timer: Timer,
+    pub socket: Socket,
     pub watched: bool,
     pub watchdog: Watchdog,
     pub boarded: bool,
@@ -50,12 +50,15 @@ impl Bench {
     {
         let started = Timer::new(Config::least());
         let timer = started.timer;
+        let socket = Socket {
+            ready: false,
+            timer,
+        };
         let doors = Doors {
             set: Set::Refused(22),
         };
         Bench {
-            ready: false,
-            timer,
+            socket,
             watched: false,
             watchdog: Watchdog::new(),
             boarded: false,

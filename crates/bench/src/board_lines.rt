@@ -7,8 +7,6 @@ use crate::board_asked::NEW;
 use crate::board_asked::STATE;
 use crate::board_shown::board_answer;
 use crate::board_shown::board_state;
-use crate::call_lines::FILL;
-use crate::call_lines::changed;
 use crate::record_lines::SCRIPT;
 use crate::record_lines::begun;
 use crate::record_lines::kept;
@@ -17,7 +15,9 @@ use board::outcome::Outcome;
 use board::state::Board;
 use page::Page;
 use time::units::Cycle;
+use timer_lines::called::FILL;
 use words::FINE;
+use words::seek;
 ghost use Prim.Native.Nat.{_≤_};
 ghost use Rattle.bench.specs.Bench.{Sound, Whole};
 ghost use Rattle.board.specs.State.{Valid};
@@ -44,7 +44,7 @@ pub fn board_line(b: Bench, line: &[u8], at: usize, page: &mut Page) -> Bench
 
 // Did an area change beyond what was written.
 fn spoilt(area: &[u8], written: usize) -> bool {
-    changed(area, written) < area.len()
+    seek(area, written, FILL, true) < area.len()
 }
 
 // Puts the answer, or that an area changed beyond what was written, or that the file did not take the records.

@@ -2,15 +2,14 @@
 
 use crate::bench::Bench;
 use crate::board_lines::board_line;
-use crate::call_lines::call_line;
 use crate::config_lines::config_line;
-use crate::config_lines::preset_line;
 use crate::door_lines::door_line;
 use crate::log_lines::Area;
 use crate::log_lines::log_line;
+use crate::pages::turned;
+use crate::record_lines::SCRIPT;
+use crate::record_lines::kept;
 use crate::record_lines::record_line;
-use crate::shift_lines::shift_line;
-use crate::state_lines::state_line;
 use crate::wdt_lines::wdt_line;
 use crate::write_lines::Items;
 use crate::write_lines::item_line;
@@ -18,18 +17,16 @@ use crate::write_lines::writes_line;
 use page::Page;
 use script::pin_lines::pin_line;
 use script::sched_lines::sched_line;
+use timer_lines::called::Room;
+use timer_lines::named::NAMES;
+use timer_lines::named::named;
+use timer_lines::named::timer_line;
 use words::TOO_LONG;
 use words::UNKNOWN_COMMAND;
 use words::find;
 use words::place;
 use words::skip;
 ghost use Rattle.bench.specs.Bench.{Sound};
-
-// The bytes of the longest line that can be read.
-pub const LONGEST: usize = 500;
-
-// A line's bytes so far.
-pub type Line = [u8; LONGEST];
 
 // Answers a sched line from the place after its name, and keeps the scheduler that it leaves.
 fn scheduled(b: Bench, line: &[u8], at: usize, page: &mut Page) -> Bench
@@ -43,8 +40,30 @@ fn scheduled(b: Bench, line: &[u8], at: usize, page: &mut Page) -> Bench
     b.answered(page, left.at)
 }
 
+// Answers a timer's line from the place after its name, and keeps the timer that it leaves; its records go to the file before its answer counts.
+fn timed(b: Bench, line: &[u8], at: usize, name: usize, room: &mut Room, page: &mut Page) -> Bench
+    requires { ⌜ Sound b ⌝ }
+    ensures { λ r. ⌜ Sound r ⌝ }
+{
+    let left = timer_line(b.socket, page, b.at, b.line, line, at, name, room);
+    let socket = left.socket;
+    let mut b = b;
+    b.socket = socket;
+    if kept(b.file_of(SCRIPT), room, left.written) {
+        return b.answered(page, left.at);
+    }
+    b.says(page, b"door.log not written")
+}
+
 // Answers a line without its comment; nothing where it has no words.
-fn command(b: Bench, line: &[u8], area: &mut Area, items: &mut Items, page: &mut Page) -> Bench
+fn command(
+    b: Bench,
+    line: &[u8],
+    room: &mut Room,
+    area: &mut Area,
+    items: &mut Items,
+    page: &mut Page,
+) -> Bench
     requires { ⌜ Sound b ⌝ }
     ensures { λ r. ⌜ Sound r ⌝ }
 {
@@ -53,30 +72,29 @@ fn command(b: Bench, line: &[u8], area: &mut Area, items: &mut Items, page: &mut
         return b;
     }
     let end = find(line, start, b' ');
-    // The calls come first, by their words: call_lines goes by these places.
+    let name = named(&line[start..end]);
+    if name < NAMES {
+        return timed(b, line, end, name, room, page);
+    }
     let name = place(
-        b"advance next reset wake tifr timsk read peek prr wtifr wtimsk presc route acout sleep tsm write edge config preset state pin sched distance wdt shift board writes item door log record",
+        b"config preset pin sched wdt board writes item door log record",
         &line[start..end],
     );
     match name {
-        0..=17 => call_line(b, line, end, name, page),
-        18 => config_line(b, line, end, page),
-        19 => preset_line(b, line, end, page),
-        20 => state_line(b, line, end, false, page),
-        21 => {
+        0 => config_line(b, line, end, false, page),
+        1 => config_line(b, line, end, true, page),
+        2 => {
             let at = pin_line(page, b.at, b.line, line, end);
             b.answered(page, at)
         }
-        22 => scheduled(b, line, end, page),
-        23 => state_line(b, line, end, true, page),
-        24 => wdt_line(b, line, end, page),
-        25 => shift_line(b, line, end, page),
-        26 => board_line(b, line, end, page),
-        27 => writes_line(b, line, end, items, page),
-        28 => item_line(b, line, end, items, page),
-        29 => door_line(b, line, end, page),
-        30 => log_line(b, line, end, area, page),
-        31 => record_line(b, line, end, page),
+        3 => scheduled(b, line, end, page),
+        4 => wdt_line(b, line, end, page),
+        5 => board_line(b, line, end, page),
+        6 => writes_line(b, line, end, items, page),
+        7 => item_line(b, line, end, items, page),
+        8 => door_line(b, line, end, page),
+        9 => log_line(b, line, end, area, page),
+        10 => record_line(b, line, end, page),
         _ => b.unreadable(page, UNKNOWN_COMMAND),
     }
 }
@@ -86,6 +104,7 @@ pub fn answer(
     b: Bench,
     line: &[u8],
     held: usize,
+    room: &mut Room,
     area: &mut Area,
     items: &mut Items,
     page: &mut Page,
@@ -95,9 +114,10 @@ pub fn answer(
 {
     let mut b = b;
     b.line = std::num::wrapping_add_u64(b.line, 1);
+    b.at = turned(page, b.at);
     if line.len() < held {
         return b.unreadable(page, TOO_LONG);
     }
     let end = find(&line[0..held], 0, b'#');
-    command(b, &line[0..end], area, items, page)
+    command(b, &line[0..end], room, area, items, page)
 }

@@ -2,11 +2,15 @@
 
 use crate::bench::Bench;
 use page::Page;
+use page::number;
+use page::text;
+use timer_lines::called::FILL;
 use words::FINE;
 use words::NOT_OPENED;
 use words::Taken;
 use words::decimal;
 use words::exactly;
+use words::seek;
 use words::skip;
 ghost use Rattle.bench.specs.Bench.{Sound};
 
@@ -57,6 +61,33 @@ pub fn kept(fd: i32, area: &[u8], written: usize) -> bool {
         return io::write_all(fd, &area[0..written]);
     }
     true
+}
+
+// What was found after a call, and the place after what was put of it.
+pub struct Found {
+    pub fine: bool,
+    pub at: usize,
+}
+
+// Puts what is wrong after a call: its area changed beyond what was written, or the file did not take its records.
+pub fn checked(page: &mut Page, from: usize, file: i32, area: &[u8], written: usize) -> Found {
+    let end = seek(area, written, FILL, true);
+    if end < area.len() {
+        return Found {
+            fine: false,
+            at: number(page, from, b"area changed at ", end as u64),
+        };
+    }
+    if kept(file, area, written) {
+        return Found {
+            fine: true,
+            at: from,
+        };
+    }
+    Found {
+        fine: false,
+        at: text(page, from, b"door.log not written"),
+    }
 }
 
 // Whose records a line asks for.

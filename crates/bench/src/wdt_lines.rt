@@ -1,14 +1,14 @@
 // Lines that call the watchdog.
 
 use crate::bench::Bench;
-use crate::call_lines::FILL;
-use crate::call_lines::checked;
 use crate::record_lines::NO_FILE;
+use crate::record_lines::checked;
 use crate::wdt_shown::wdt_answer;
 use crate::wdt_shown::wdt_state;
 use oscillator::state::Watchdog;
 use page::Page;
 use time::units::Cycle;
+use timer_lines::called::FILL;
 use watchdog::call;
 use watchdog::calls::Call;
 use watchdog::outcome::Outcome;

@@ -1,14 +1,15 @@
 // Lines that write to registers by lists.
 
 use crate::bench::Bench;
-use crate::call_lines::FILL;
-use crate::call_lines::checked;
 use crate::digits::bytes;
 use crate::record_lines::SCRIPT;
+use crate::record_lines::checked;
 use display::answer::records;
 use page::Page;
 use page::number;
 use page::text;
+use timer_lines::called::FILL;
+use timer_lines::socket::Socket;
 use words::Cursor;
 use words::EXTRA_WORD;
 use words::FINE;
@@ -25,9 +26,9 @@ ghost use Rattle.counter.specs.Valid.{Valid};
 // The most items of the list that lines make up, and its bytes, ten an item.
 const MOST: usize = 400;
 
-pub const ROOM: usize = 4000;
+pub const LIST: usize = 4000;
 
-pub type Items = [u8; ROOM];
+pub type Items = [u8; LIST];
 
 // The bytes of the longest list that a line can hold.
 const LONGEST: usize = 250;
@@ -123,9 +124,10 @@ fn told(bench: Bench, w: Written, area: &[u8], page: &mut Page) -> Bench
     requires { ⌜ (Sound bench) × Valid (w .timer) ⌝ }
     ensures { λ r. ⌜ Sound r ⌝ }
 {
-    let t = w.timer;
+    let timer = w.timer;
+    let socket = Socket { ready: true, timer };
     let mut b = bench;
-    b.timer = t;
+    b.socket = socket;
     let c = checked(page, b.at, b.file_of(SCRIPT), area, w.written);
     if !c.fine {
         return b.answered(page, c.at);
@@ -139,7 +141,8 @@ fn list_on(b: Bench, list: &[u8], area: &mut [u8], page: &mut Page) -> Bench
     requires { ⌜ Sound b ⌝ }
     ensures { λ r. ⌜ Sound r ⌝ }
 {
-    let w = writes(b.timer, list, area);
+    let socket = b.socket;
+    let w = writes(socket.timer, list, area);
     told(b, w, area, page)
 }
 
@@ -148,7 +151,8 @@ fn listed(b: Bench, list: &[u8], size: usize, page: &mut Page) -> Bench
     requires { ⌜ (Sound b) × (size ≤ 4096) ⌝ }
     ensures { λ r. ⌜ Sound r ⌝ }
 {
-    if !b.ready {
+    let socket = b.socket;
+    if !socket.ready {
         return b.says(page, b"no timer");
     }
     let mut area = [FILL; 4096];
@@ -168,7 +172,8 @@ fn of_items(b: Bench, line: &[u8], c: Cursor, items: &Items, page: &mut Page) ->
     let all = &items[..];
     let to = 10 * b.items;
     let mut b = listed(b, &all[0..to], size.value as usize, page);
-    if b.ready {
+    let socket = b.socket;
+    if socket.ready {
         b.items = 0;
     }
     b

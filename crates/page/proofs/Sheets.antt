@@ -20,9 +20,9 @@ unfolding put
 put-here page at b h = record { after = rw (lt-ltb at size h) }
 
 -- a byte where it is full
-pub put-next : (page : List ℕ) (at b : ℕ) → size ≤ at → Puts page at (set page 0 b) 1 (b ∷ [])
+pub put-full : (page : List ℕ) (at b : ℕ) → size ≤ at → Puts page at page at (b ∷ [])
 unfolding put
-put-next page at b h = record { after = rw (le-ltb at size h) }
+put-full page at b h = record { after = rw (le-ltb at size h) }
 
 -- none
 pub put-none : (page : List ℕ) (at : ℕ) → Puts page at page at []

@@ -1,4 +1,4 @@
--- Answers as bytes (docs/SCRIPT.md), put one after the other on a page. A page that is full is handed over whole, and the next byte is the first of the next page.
+-- Answers as bytes (docs/SCRIPT.md), put one after the other on a page. A page that is full takes no more.
 use Prim.Native.Nat.{ℕ, _+_}
 use mathlib.Core.Path.{_≡_}
 use mathlib.Core.Bool.{Bool, cond}
@@ -20,20 +20,15 @@ sheet page at = record { page = page; at = at }
 
 -- the bytes of a page
 abbrev pub size : ℕ
-size = 8192
+size = 32768
 
--- one byte more: at its place, or at the start of the next page where this one is full
+-- one byte more at its place, unless the page is full
 unfoldable pub put : Sheet → ℕ → Sheet
-put s b = cond (ltb (s .at) size) (sheet (set (s .page) (s .at) b) (s .at + 1)) (sheet (set (s .page) 0 b) 1)
+put s b = cond (ltb (s .at) size) (sheet (set (s .page) (s .at) b) (s .at + 1)) s
 
 -- some bytes more
 abbrev pub puts : Sheet → List ℕ → Sheet
 puts s bytes = foldl put s bytes
-
--- the full pages that are handed over meanwhile
-unfoldable pub handed : Sheet → List ℕ → List ℕ
-handed s [] = []
-handed s (b ∷ bs) = cond (ltb (s .at) size) [] (s .page) ++ handed (put s b) bs
 
 -- what a page and a place are after some bytes more
 pub record Puts (old : List ℕ) (from : ℕ) (new : List ℕ) (at : ℕ) (bytes : List ℕ) : Type 0 where

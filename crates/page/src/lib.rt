@@ -1,6 +1,5 @@
-// Answers as bytes, on a page that is written out whenever it is full.
+// Answers as bytes, on a page. A full page takes no more: the program writes it out between lines, while there is room for the longest answer.
 
-use libc::STDOUT_FILENO;
 use words::EXTRA_WORD;
 use words::MALFORMED;
 use words::MISSING_WORD;
@@ -17,11 +16,11 @@ ghost use Rattle.figures.specs.Figures.{decimal};
 ghost use Rattle.page.specs.Page.{Puts, pair, pattern, flag, reasonOf, unreadableOf};
 
 // The bytes of a page.
-pub const SIZE: usize = 8192;
+pub const SIZE: usize = 32768;
 
 pub type Page = [u8; SIZE];
 
-// Puts a byte at a place of the page, or on the next page; yields the place after it.
+// Puts a byte at a place of the page, unless it is full; yields the place after it.
 pub fn byte(page: &mut Page, at: usize, b: u8) -> usize
     ensures { λ r. ⌜ Puts (now (page .entry)) at (now (page .exit)) r (b ∷ []) ⌝ }
 {
@@ -29,9 +28,7 @@ pub fn byte(page: &mut Page, at: usize, b: u8) -> usize
         page[at] = b;
         return at + 1;
     }
-    io::write_all(STDOUT_FILENO, page);
-    page[0] = b;
-    1
+    at
 }
 
 // Puts some bytes; yields the place after them.
@@ -126,11 +123,4 @@ pub fn unreadable(page: &mut Page, from: usize, nth: u64, why: u8) -> usize
 {
     let at = number(page, from, b"error line ", nth);
     reason(page, at, why)
-}
-
-// Writes out the page up to a place.
-pub fn flush(page: &[u8], at: usize) {
-    if at <= page.len() {
-        io::write_all(STDOUT_FILENO, &page[0..at]);
-    }
 }

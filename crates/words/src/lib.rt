@@ -54,7 +54,7 @@ pub struct Pair {
 }
 
 // The first place from one on that holds a byte, or where another is wanted holds another, else the text's end.
-fn seek(text: &[u8], from: usize, byte: u8, another: bool) -> usize
+pub fn seek(text: &[u8], from: usize, byte: u8, another: bool) -> usize
     ensures { λ r. ⌜ (min from (length (now (text .entry))) ≤ r) × (r ≤ length (now (text .entry))) × (r ≡ firstFrom (sought byte another) (now (text .entry)) from) ⌝ }
 {
     let mut i = from;

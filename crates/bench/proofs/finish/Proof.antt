@@ -4,7 +4,7 @@ use Rattle.bench.proofs.finish.Statement.{statement}
 use Rattle.bench.proofs.finish.Tie as tie
 
 ordered-requires : tie.Need-ordered-requires
-ordered-requires c κs = record { bench = c .before .before .before .before .answer .ensures; board = c .before .before .before .before .before .before .before .before .before .before .pre .board }
+ordered-requires c κs = record { bench = c .before .before .before .before .answer .ensures; board = c .before .before .before .before .before .before .before .before .before .before .before .pre .board }
 
 pub finish-spec : {M : Type 1} → statement M
 finish-spec =

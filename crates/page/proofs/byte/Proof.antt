@@ -1,6 +1,6 @@
--- `page::byte` meets its contract: a full page is handed over, and is then written from its start.
+-- `page::byte` meets its contract: a full page takes no more.
 use borrow.Author.Needs.{needs}
-use Rattle.page.proofs.Sheets.{put-here, put-next}
+use Rattle.page.proofs.Sheets.{put-here, put-full}
 use Rattle.page.proofs.byte.Statement.{statement}
 use Rattle.page.proofs.byte.Tie as tie
 
@@ -8,9 +8,7 @@ returns : tie.Need-returns
 returns c = put-here (c .before .args .page .now) (c .before .args .at) (c .before .args .b) (c .if1 .taken)
 
 returns-2 : tie.Need-returns-2
-returns-2 c =
-    let a = c .before .before .before .before .args in
-    put-next (a .page .now) (a .at) (a .b) (c .before .before .before .if1 .left)
+returns-2 c = put-full (c .before .args .page .now) (c .before .args .at) (c .before .args .b) (c .if1 .left)
 
 pub byte-spec : {M : Type 1} → statement M
 byte-spec =
@@ -19,6 +17,4 @@ byte-spec =
     (λ c. search needs)
     (λ c. search needs)
     returns
-    (λ c κs. search needs)
-    (λ c. search needs)
     returns-2)

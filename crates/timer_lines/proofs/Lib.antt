@@ -1,0 +1,6 @@
+pub mod Sizes
+pub mod Asking
+pub mod Telling
+pub mod Filling
+pub mod Showing
+pub mod Making

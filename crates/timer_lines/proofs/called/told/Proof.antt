@@ -1,0 +1,26 @@
+-- `timer_lines::called::told` meets its contract.
+use Rattle.timer_lines.specs.Called.{toldOf}
+use Rattle.figures.specs.Figures.{codes}
+use borrow.Author.Tests.{lt-ltb, le-ltb}
+use borrow.Author.Needs.{needs}
+use Rattle.timer_lines.proofs.called.told.Statement.{statement}
+use Rattle.timer_lines.proofs.called.told.Tie as tie
+
+returns : tie.Need-returns
+unfolding codes toldOf
+returns c = rw (← c .before .before .before .before .seek .ensures .2, lt-ltb (c .before .before .before .before .seek .result) _ (c .before .before .before .if1 .taken)) (c .number .ensures)
+
+returns-2 : tie.Need-returns-2
+unfolding toldOf
+returns-2 c = rw (← c .before .before .before .seek .ensures .2, le-ltb (c .before .before .before .seek .result) _ (c .before .before .if1 .left)) (c .answer .ensures)
+
+pub told-spec : {M : Type 1} → statement M
+told-spec =
+    tie.close
+    (tie.spec
+    (λ c κs. search needs)
+    (λ c. search needs)
+    (λ c κs. search needs)
+    returns
+    (λ c κs. search needs)
+    returns-2)

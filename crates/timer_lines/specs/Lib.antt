@@ -1,0 +1,5 @@
+pub mod Asked
+pub mod Called
+pub mod Made
+pub mod Shown
+pub mod Named

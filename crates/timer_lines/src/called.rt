@@ -1,0 +1,105 @@
+// Lines that call the timer.
+
+use crate::asked::Asked;
+use crate::socket::Left;
+use crate::socket::Socket;
+use answers::Outcome;
+use display::answer::answer;
+use page::Page;
+use page::number;
+use page::text;
+use page::unreadable;
+use time::units::Cycle;
+use words::FINE;
+use words::seek;
+ghost use Prim.Native.Nat.{_≤_};
+ghost use mathlib.Core.Path.{_≡_};
+ghost use lib.ListN.{length};
+ghost use Rattle.counter.specs.Valid.{Valid};
+ghost use Rattle.page.specs.Page.{Puts};
+ghost use Rattle.timer_lines.specs.Called.{filled, toldOf, calledOf, callLine, Leaves};
+
+// What stands in every byte of an area before a call.
+pub const FILL: u8 = 0xa5;
+
+// The bytes of the largest area.
+pub const ROOM: usize = 4096;
+
+pub type Room = [u8; ROOM];
+
+// Fills an area.
+fn fill(area: &mut [u8])
+    ensures { λ r. ⌜ now (area .exit) ≡ filled (length (now (area .entry))) ⌝ }
+{
+    let mut i = 0;
+    while i < area.len() {
+        area[i] = FILL;
+        i += 1;
+    }
+}
+
+// Puts a call's answer, or where the area changed beyond what was written.
+fn told(page: &mut Page, from: usize, o: Outcome, area: &[u8]) -> usize
+    requires { ⌜ Valid (o .timer) ⌝ }
+    ensures { λ r. ⌜ Puts (now (page .entry)) from (now (page .exit)) r (toldOf o (now (area .entry))) ⌝ }
+{
+    let end = seek(area, o.written, FILL, true);
+    if end < area.len() {
+        return number(page, from, b"area changed at ", end as u64);
+    }
+    answer(page, from, o, area)
+}
+
+// Calls the timer on an area, filled, and puts the answer.
+fn called(s: Socket, asked: Asked, page: &mut Page, from: usize, area: &mut [u8]) -> Left
+    requires { ⌜ Valid (s .timer) ⌝ }
+    ensures { λ r. ⌜ Leaves (calledOf s asked (length (now (area .entry)))) (now (page .entry)) from (now (page .exit)) (now (area .exit)) r ⌝ }
+{
+    fill(area);
+    let call = asked.call;
+    let o = dispatch::call(s.timer, call, Cycle(asked.cycle), area);
+    let timer = o.timer;
+    let at = told(page, from, o, area);
+    let socket = Socket {
+        ready: s.ready,
+        timer,
+    };
+    Left {
+        socket,
+        at,
+        written: o.written,
+    }
+}
+
+// Answers a call's line from the place after its name, on an area of which the call has as many bytes as it asks for.
+pub fn call_line(
+    s: Socket,
+    page: &mut Page,
+    from: usize,
+    nth: u64,
+    line: &[u8],
+    at: usize,
+    name: usize,
+    area: &mut [u8],
+) -> Left
+    requires { ⌜ (Valid (s .timer)) × (4096 ≤ length (now area)) ⌝ }
+    ensures { λ r. ⌜ Leaves (callLine s nth (now (line .entry)) at name (now (area .entry))) (now (page .entry)) from (now (page .exit)) (now (area .exit)) r ⌝ }
+{
+    let asked = Asked::of(line, at, name);
+    if asked.why != FINE {
+        return Left {
+            socket: s,
+            at: unreadable(page, from, nth, asked.why),
+            written: 0,
+        };
+    }
+    if s.ready {
+        let size = asked.size;
+        return called(s, asked, page, from, &mut area[0..size]);
+    }
+    Left {
+        socket: s,
+        at: text(page, from, b"no timer"),
+        written: 0,
+    }
+}
