@@ -18,11 +18,10 @@ use lib.Ieee.Fits.{down-pos}
 use lib.Ieee.Positive.{first-pos}
 use lib.Ieee.Scale.{round-same}
 use Rattle.words.specs.declared.Read.{Read}
-use Rattle.words.specs.declared.volts.Volts.{Volts}
 use Rattle.words.specs.Words.{findOf}
 use Rattle.words.specs.Numbers.{digitOf, allDigits, wellFormed, extended, unreadOf}
 use Rattle.words.specs.Decimals.{fineOf, badOf, nearest, decimalOf, plainOf, roomedOf, heldOf, digitsOf, quotientOf}
-use Rattle.words.proofs.Numerals.{fold-more, fold-failed}
+use Rattle.words.proofs.Numerals.{fold-more, fold-failed, formed}
 
 -- ---- digits
 
@@ -104,18 +103,13 @@ unfolding digitsOf wellFormed
 digits-empty [] n h = refl
 digits-empty (b ∷ bs) n h = absurd (omega arith)
 
-formed : (l : List ℕ) → 0 < length l → wellFormed 10 l ≡ allDigits 10 l
-unfolding wellFormed
-formed [] h = absurd (omega arith)
-formed (b ∷ bs) h = refl
-
 pub digits-malformed : (l : List ℕ) (n : ℕ) → 0 < length l → allDigits 10 l ≡ false → digitsOf l n ≡ unreadOf 6
 unfolding digitsOf
-digits-malformed l n h t = rw (formed l h, t)
+digits-malformed l n h t = rw (formed 10 l h, t)
 
 pub digits-read : (l : List ℕ) (n : ℕ) → 0 < length l → allDigits 10 l ≡ true → digitsOf l n ≡ record { value = heldOf n l; why = 0 }
 unfolding digitsOf
-digits-read l n h t = rw (formed l h, t)
+digits-read l n h t = rw (formed 10 l h, t)
 
 -- digits that are read are well formed
 digits-fine : (l : List ℕ) (n : ℕ) (r : Read) → r ≡ digitsOf l n → r .why ≡ 0 → (wellFormed 10 l ≡ true) × (r ≡ record { value = heldOf n l; why = 0 })

@@ -1,6 +1,6 @@
 -- Volts (docs/SCRIPT.md, "Pins and the scheduler"): decimals, "rounded once to the nearest f64", and the names of what is no number.
 use Prim.Native.Nat.{ℕ, _+_, _*_, _^_}
-use mathlib.Core.Bool.{Bool, true, false, cond, _&&_, _||_}
+use mathlib.Core.Bool.{true, false, cond, _&&_, _||_}
 use mathlib.Core.List.{List, [], _∷_, _++_, foldl}
 use lib.Dec.{eqb, leb, ltb}
 use lib.IntN.{pos}
