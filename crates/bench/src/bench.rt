@@ -6,6 +6,7 @@ use crate::record_lines::SCRIPT;
 use config::Config;
 use counter::state::Timer;
 use door::Set;
+use door_lines::rules::Doors;
 use log::Ring;
 use oscillator::state::Watchdog;
 use page::Page;
@@ -17,11 +18,6 @@ use scheduler::Scheduler;
 use timer_lines::socket::Socket;
 use words::FINE;
 ghost use Rattle.bench.specs.Bench.{Sound};
-
-// The door of the last rule that was accepted; refused before there is one.
-pub struct Doors {
-    pub set: Set,
-}
 
 // The watchdog counts once there is a new one, and so does the board, which stands beside. asked is what a
 // line orders of the board, items how many the list holds, file the descriptor that records go to, whose these are. line is the line's number, held

@@ -3,7 +3,6 @@
 use crate::bench::Bench;
 use crate::board_lines::board_line;
 use crate::config_lines::config_line;
-use crate::door_lines::door_line;
 use crate::log_lines::Area;
 use crate::log_lines::log_line;
 use crate::pages::turned;
@@ -14,6 +13,7 @@ use crate::wdt_lines::wdt_line;
 use crate::write_lines::Items;
 use crate::write_lines::item_line;
 use crate::write_lines::writes_line;
+use door_lines::rules::door_line;
 use page::Page;
 use script::pin_lines::pin_line;
 use script::sched_lines::sched_line;
@@ -37,6 +37,18 @@ fn scheduled(b: Bench, line: &[u8], at: usize, page: &mut Page) -> Bench
     let scheduler = left.scheduler;
     let mut b = b;
     b.scheduler = scheduler;
+    b.answered(page, left.at)
+}
+
+// Answers a door line from the place after its name, and keeps the door that it leaves.
+fn doored(b: Bench, line: &[u8], at: usize, page: &mut Page) -> Bench
+    requires { ⌜ Sound b ⌝ }
+    ensures { λ r. ⌜ Sound r ⌝ }
+{
+    let left = door_line(b.doors, page, b.at, b.line, line, at);
+    let doors = left.doors;
+    let mut b = b;
+    b.doors = doors;
     b.answered(page, left.at)
 }
 
@@ -92,7 +104,7 @@ fn command(
         5 => board_line(b, line, end, page),
         6 => writes_line(b, line, end, items, page),
         7 => item_line(b, line, end, items, page),
-        8 => door_line(b, line, end, page),
+        8 => doored(b, line, end, page),
         9 => log_line(b, line, end, area, page),
         10 => record_line(b, line, end, page),
         _ => b.unreadable(page, UNKNOWN_COMMAND),

@@ -6,7 +6,6 @@ mod board_lines;
 mod board_shown;
 mod config_lines;
 mod digits;
-mod door_lines;
 mod lines;
 mod log_lines;
 mod pages;

@@ -1,14 +1,14 @@
 -- What a call's line asks for, word after word.
 use Prim.Native.Nat.{ℕ, _+_, _^_, _-_}
 use mathlib.Core.List.{List}
-use mathlib.Core.Path.{_≡_, refl, sym, ap, _∙_}
+use mathlib.Core.Path.{_≡_}
 use Rattle.words.specs.Words.{exactlyOf}
 use Rattle.words.specs.Numbers.{nextOf}
 use Rattle.words.specs.declared.Cursor.{Cursor}
 use Rattle.words.specs.declared.Taken.{Taken}
 use Rattle.timer.specs.declared.calls.Call.{Call}
 use Rattle.timer_lines.specs.declared.asked.Asked.{Asked}
-use Rattle.timer_lines.specs.Asked.{argumentsOf, firstOf, secondOf, callOf, endedOf, askedOf}
+use Rattle.timer_lines.specs.Asked.{argumentsOf, firstOf, secondOf, callOf, askedOf}
 
 module _ (line : List ℕ) (at name : ℕ) where
   pub asked-is : (n : ℕ) (start : Cursor) (a b cycle size : Taken) (call : Call)
