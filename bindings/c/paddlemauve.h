@@ -39,7 +39,7 @@ struct pm_state {
 
 /* A timer as its owner holds it: its state, and what the library keeps of it and alone reads. It comes from paddlemauve_start and is changed by the
  * calls alone; paddlemauve_hold makes one of a state that a function by value has left. */
-struct pm_timer { struct pm_state state; uint64_t kept[2]; };
+struct pm_timer { struct pm_state state; uint64_t kept[8]; };
 
 /* Why a call was turned away. Neither the timer nor a byte of the area has changed then. */
 enum pm_refusal {

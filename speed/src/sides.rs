@@ -2,7 +2,7 @@
 
 use lean::machine::{Cpu, Cx, Peripheral, Sys, TIFR, TIMSK};
 use lean::timer::{TimerBits, TimerConfig, TimerLayout, CS_SYNC, EVENT};
-use paddlemauve::{Advanced, Config, Timer};
+use paddlemauve::{Answer, Call, Config, Next, Outcome, Timer};
 
 pub const AREA: usize = lean::machine::AREA;
 
@@ -28,9 +28,29 @@ pub trait Side {
     fn area(&self) -> &[u8; AREA];
 }
 
+/// next is the next event's cycle as the last reply told it, none before the first.
 pub struct Ours {
     timer: Timer,
     area: [u8; AREA],
+    next: Option<u64>,
+}
+
+/// Past every cycle where no event is to come.
+#[inline]
+fn cycle_of(next: Option<Next>) -> u64 {
+    next.map_or(u64::MAX, |next| next.cycle)
+}
+
+impl Ours {
+    #[inline]
+    fn call(&mut self, call: Call, cycle: u64) -> (Answer, usize) {
+        let Outcome { answer, written, next } = self.timer.call(call, cycle, &mut self.area);
+        if let Answer::Refused(why) = answer {
+            panic!("{call:?} at {cycle}: {why}");
+        }
+        self.next = Some(cycle_of(next));
+        (answer, written)
+    }
 }
 
 impl Side for Ours {
@@ -38,28 +58,31 @@ impl Side for Ours {
 
     fn new(which: Which) -> Self {
         let config = if which == Which::Timer0 { Config::M328P_TIMER0 } else { Config::M328P_TIMER1 };
-        Self { timer: Timer::new(&config).expect("the preset is accepted"), area: [0; AREA] }
+        Self { timer: Timer::new(&config).expect("the preset is accepted"), area: [0; AREA], next: None }
     }
 
     fn write(&mut self, address: u16, value: u8) {
-        self.timer.write(address, value, 0, &mut self.area).expect("a write at cycle 0");
+        self.call(Call::Write(address, value), 0);
     }
 
     #[inline]
     fn advance(&mut self, cycle: u64) -> usize {
         let mut bytes = 0;
         loop {
-            match self.timer.advance(cycle, &mut self.area) {
-                Ok(Advanced::Done { written, .. }) => return bytes + written,
-                Ok(Advanced::Paused { written, .. }) => bytes += written,
-                Err(why) => panic!("advance to {cycle}: {why}"),
+            let (answer, written) = self.call(Call::Advance, cycle);
+            bytes += written;
+            if let Answer::Reached(_) = answer {
+                return bytes;
             }
         }
     }
 
     #[inline]
     fn next(&mut self, cycle: u64) -> u64 {
-        self.timer.next(cycle).expect("no event is due").map_or(u64::MAX, |next| next.cycle)
+        match self.next {
+            Some(next) => next,
+            None => cycle_of(self.timer.next(cycle).expect("no event is due")),
+        }
     }
 
     #[inline]
@@ -69,7 +92,7 @@ impl Side for Ours {
 
     #[inline]
     fn write_at(&mut self, address: u16, value: u8, cycle: u64) {
-        self.timer.write(address, value, cycle, &mut self.area).expect("a write");
+        self.call(Call::Write(address, value), cycle);
     }
     #[inline]
     fn tifr(&mut self, cycle: u64) -> u8 {

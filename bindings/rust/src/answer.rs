@@ -129,6 +129,7 @@ impl Refusal {
         }
     }
 
+    #[cold]
     pub(crate) fn of(number: u8) -> Self {
         match number {
             1 => Self::Configuration,

@@ -117,7 +117,7 @@ pub struct Timer {
 }
 
 /// The words that the library keeps of a timer, and it alone reads.
-const KEPT: usize = 2;
+const KEPT: usize = 8;
 
 /// A timer as its owner holds it, with what the library keeps of it.
 #[repr(C)]

@@ -94,7 +94,12 @@ impl Timer {
     pub fn call(&mut self, call: Call, cycle: u64, area: &mut [u8]) -> Outcome {
         // SAFETY: the timer came from the library and only the library has changed it, so what is kept of it is kept; the
         // area is lent for the call alone.
-        let reply = unsafe { raw::paddlemauve_call(&mut self.raw, call.asked(cycle), raw::Area::of(area)) };
+        let reply = unsafe {
+            match call {
+                Call::Advance => raw::paddlemauve_advance(&mut self.raw, cycle, raw::Area::of(area)),
+                _ => raw::paddlemauve_call(&mut self.raw, call.asked(cycle), raw::Area::of(area)),
+            }
+        };
         Outcome { answer: Answer::of(&reply), written: reply.written as usize, next: Next::of(&reply) }
     }
 
@@ -165,11 +170,7 @@ impl Timer {
     #[inline]
     pub fn write_tifr(&mut self, ones: u8, cycle: u64) -> Result<(), Refusal> {
         // SAFETY: as of call.
-        let reply = unsafe { raw::paddlemauve_clear(&mut self.raw, ones, cycle) };
-        match Answer::of(&reply) {
-            Answer::Refused(why) => Err(why),
-            _ => Ok(()),
-        }
+        accepted(&unsafe { raw::paddlemauve_clear(&mut self.raw, ones, cycle) })
     }
 
     pub fn write_timsk(&mut self, mask: u8, cycle: u64) -> Result<(), Refusal> {
@@ -305,14 +306,19 @@ impl Timer {
     }
 }
 
+/// Was a call accepted.
+#[inline]
+fn accepted(reply: &raw::Reply) -> Result<(), Refusal> {
+    match reply.number {
+        0 => Ok(()),
+        number => Err(Refusal::of(number)),
+    }
+}
+
 /// What a call that yields a byte replied.
 #[inline]
 fn byte_of(reply: &raw::Reply) -> Result<u8, Refusal> {
-    match Answer::of(reply) {
-        Answer::Refused(why) => Err(why),
-        Answer::Value(byte) => Ok(byte),
-        other => unreachable!("a read answers {other:?}"),
-    }
+    accepted(reply).map(|()| reply.value as u8)
 }
 
 impl PartialEq for Timer {

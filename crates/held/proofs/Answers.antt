@@ -133,11 +133,11 @@ plain-serves h c cycle {u} {a} {g} k e p w m area =
 -- an accepted cycle keeps what is kept, and so does another TIFR
 pub kept-latest : (h : Held) (n : ℕ) → Kept h → Valid (latestTo (h .timer) n) → Kept (latestIn h n)
 unfolding nextOf nextAt runningOf divisorOf heldOf modeOf waveOf falls settingAt
-kept-latest h n k v = record { valid = v; next = k .next; flags = k .flags; shift = k .shift; idle = k .idle; small = k .small; down = k .down }
+kept-latest h n k v = record { valid = v; next = k .next; flags = k .flags; shift = k .shift; idle = k .idle; small = k .small; down = k .down; scene = k .scene; top = k .top }
 
 kept-tifr : (h : Held) (f n : ℕ) → Kept h → Valid (latestTo (flagsTo (h .timer) f (h .timer .flags .timsk)) n) → Kept (latestIn (tifrIn h f) n)
 unfolding nextOf nextAt runningOf divisorOf heldOf modeOf waveOf falls settingAt flagsAhead eventsAt linear
-kept-tifr h f n k v = record { valid = v; next = k .next; flags = k .flags; shift = k .shift; idle = k .idle; small = k .small; down = k .down }
+kept-tifr h f n k v = record { valid = v; next = k .next; flags = k .flags; shift = k .shift; idle = k .idle; small = k .small; down = k .down; scene = k .scene; top = k .top }
 
 -- a call that changes the latest cycle alone, and answers
 pub answering-right : (h : Held) (c : Call) (cycle : ℕ) (tested : Bool) (a : Answer) → Kept h → Timed (h .timer) c tested → Plain (h .timer) c cycle (h .timer) a → ((n : ℕ) → beside (valuesOf a) n ≡ n)

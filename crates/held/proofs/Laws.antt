@@ -91,7 +91,7 @@ blocked-on true zero g h = simp unary-clauses refl
 blocked-on true (suc n) zero h = absurd (omega arith)
 blocked-on true (suc n) (suc g) h = simp eqb·suc-zero
 
-linear-on : (w : Wave) (n g : ℕ) (m : Moving) → n ≤ g → linear w (g - n) (linear w n m) ≡ linear w g m
+pub linear-on : (w : Wave) (n g : ℕ) (m : Moving) → n ≤ g → linear w (g - n) (linear w n m) ≡ linear w g m
 unfolding linear falls
 linear-on w n g m h = simp (moved-on (falls w (m .counter)) (m .counter .count) n g h, counted-on (m .counter .odometer) n g h, blocked-on (m .counter .blocked) n g h)
 

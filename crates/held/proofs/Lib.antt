@@ -4,3 +4,4 @@ pub mod Holds
 pub mod Puts
 pub mod Answers
 pub mod Stills
+pub mod Rises

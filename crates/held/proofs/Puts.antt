@@ -9,7 +9,7 @@ use Rattle.counter.specs.Registers.{tempTo}
 use Rattle.held.specs.declared.state.Held.{Held}
 
 abbrev pub timerTo : Held → Timer → Held
-timerTo h t = record { timer = t; next = h .next; flags = h .flags; shift = h .shift; down = h .down }
+timerTo h t = record { timer = t; scene = h .scene; next = h .next; top = h .top; flags = h .flags; shift = h .shift; down = h .down }
 
 abbrev pub counterTo : Timer → Counter → Timer
 counterTo t c = record { config = t .config; counter = c; ocr = t .ocr; buffer = t .buffer; oc = t .oc; drives = t .drives; registers = t .registers; flags = t .flags; clock = t .clock; halts = t .halts }

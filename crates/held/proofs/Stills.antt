@@ -147,7 +147,7 @@ module _ (h : Held) (cycle : ℕ) (k : Quiet h cycle) where
   stored-next = ap nextOf stored-is ∙ next-of t cycle (k .kept .valid) sync-before below
 
   pub stored-kept : Kept stored
-  unfolding runningOf divisorOf heldOf modeOf waveOf falls stilled
+  unfolding runningOf divisorOf heldOf modeOf waveOf falls stilled settingAt
   stored-kept = record {
     valid = stored-valid;
     next = k .kept .next ∙ ap codeOf (sym stored-next);
@@ -156,6 +156,8 @@ module _ (h : Held) (cycle : ℕ) (k : Quiet h cycle) where
     idle = k .kept .idle;
     small = k .kept .small;
     down = k .kept .down;
+    scene = k .kept .scene;
+    top = k .kept .top;
   }
 
   -- ---- the advance
@@ -213,7 +215,7 @@ module _ (h : Held) (cycle : ℕ) (k : Quiet h cycle) where
 
   left-kept : Kept left
   unfolding nextOf nextAt runningOf divisorOf heldOf modeOf waveOf falls settingAt
-  left-kept = let g = stored-kept in record { valid = left-valid; next = g .next; flags = g .flags; shift = g .shift; idle = g .idle; small = g .small; down = g .down }
+  left-kept = let g = stored-kept in record { valid = left-valid; next = g .next; flags = g .flags; shift = g .shift; idle = g .idle; small = g .small; down = g .down; scene = g .scene; top = g .top }
 
   pub low-serves : Served t (countLow t) cycle left (replied 0 1 (s .counter .count % 256) 0 (h .next) (h .flags))
   unfolding asks works says readValue peeked wordOf stilled refusing

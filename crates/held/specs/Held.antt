@@ -3,13 +3,16 @@ use Prim.Native.Nat.{ℕ, _-_, _<_, _^_}
 use mathlib.Core.Bool.{Bool, true, false, cond}
 use mathlib.Core.Path.{_≡_}
 use lib.Dec.{eqb}
-use Rattle.wave.specs.Count.{falls}
+use lib.ListN.{getD}
+use Rattle.wave.specs.Count.{falls, topOf}
 use Rattle.counter.specs.declared.next.Next.{Next}
 use Rattle.counter.specs.declared.next.Next.the-variants as next
 use Rattle.counter.specs.declared.state.Timer.{Timer}
 use Rattle.counter.specs.Modes.{modeOf, waveOf, divisorOf, runningOf}
 use Rattle.counter.specs.Next.{nextOf}
+use Rattle.counter.specs.Setting.{settingOf}
 use Rattle.counter.specs.Valid.{Valid}
+use Rattle.scene.specs.Scene.{sceneOf}
 use Rattle.held.specs.declared.state.Held.{Held}
 
 -- past every cycle: no event is to come
@@ -33,7 +36,7 @@ shiftAt d running =
     (cond (eqb d 8) 3 (cond (eqb d 32) 5 (cond (eqb d 64) 6 (cond (eqb d 128) 7 (cond (eqb d 256) 8 (cond (eqb d 1024) 10 0))))))
     63
 
--- what is kept of which timer: of a valid one its next event with the flags, the shift of its divisor, and whether its count falls
+-- what is kept of which timer: of a valid one its next event with the flags, the shift of its divisor, whether its count falls, its setting's scene and TOP
 pub record Kept (h : Held) : Type 0 where
   pub valid : Valid (h .timer)
   pub next : h .next ≡ codeOf (nextOf (h .timer))
@@ -42,3 +45,5 @@ pub record Kept (h : Held) : Type 0 where
   pub idle : runningOf (h .timer) ≡ false → h .shift ≡ 63
   pub small : h .shift < 64
   pub down : h .down ≡ falls (waveOf (h .timer) (modeOf (h .timer))) (h .timer .counter)
+  pub scene : h .scene ≡ sceneOf (settingOf (h .timer))
+  pub top : h .top ≡ topOf (waveOf (h .timer) (modeOf (h .timer))) (getD (h .timer .ocr) 0 0)

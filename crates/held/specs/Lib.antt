@@ -1,4 +1,5 @@
 pub mod Held
 pub mod Reply
 pub mod Quick
+pub mod Rise
 pub mod Laws

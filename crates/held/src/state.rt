@@ -1,6 +1,8 @@
 // A timer with what is kept of it.
 
 use counter::state::Timer;
+use scene::state::Scene;
+use scene::state::scene_of;
 use time::units::Ticks;
 ghost use mathlib.Core.Path.{_≡_};
 ghost use Rattle.counter.specs.Valid.{Valid};
@@ -14,7 +16,9 @@ pub const NEVER: u64 = 0xffff_ffff_ffff_ffff;
 #[repr(C)]
 pub struct Held {
     pub timer: Timer,
+    pub scene: Scene,
     pub next: u64,
+    pub top: u32,
     pub flags: u8,
     pub shift: u8,
     pub down: bool,
@@ -48,6 +52,9 @@ pub fn held_of(t: Timer) -> Held
     let wave = t.wave_at(mode);
     let counter = t.counter;
     let down = wave.falls(counter);
+    let ocr = t.ocr;
+    let top = wave.top(ocr[0]);
+    let scene = scene_of(t.setting(mode, wave));
     if t.running() {
         let d = t.distance();
         let p = t.prescaler();
@@ -57,7 +64,9 @@ pub fn held_of(t: Timer) -> Held
         let at = p.cycle(Ticks(last.0 + (d.ticks as u64)));
         Held {
             timer: t,
+            scene,
             next: at.0,
+            top,
             flags: d.flags,
             shift: shift_of(p.divisor, true),
             down,
@@ -65,7 +74,9 @@ pub fn held_of(t: Timer) -> Held
     } else {
         Held {
             timer: t,
+            scene,
             next: NEVER,
+            top,
             flags: 0,
             shift: 63,
             down,

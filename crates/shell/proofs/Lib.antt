@@ -1,3 +1,4 @@
+pub mod Branches
 pub mod Cells
 pub mod Histories
 pub mod Past

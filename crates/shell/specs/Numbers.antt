@@ -40,7 +40,7 @@ callOf q = known (calls q) (q .kind)
 
 -- the shape of a held timer
 abbrev pub shape : Shape
-shape = record { size = 200; align = 8 }
+shape = record { size = 248; align = 8 }
 
 -- and of a board
 abbrev pub boardShape : Shape

@@ -14,13 +14,21 @@ use held::quick::clearing;
 use held::quick::counting;
 use held::quick::flagging;
 use held::quick::nexting;
+use held::quick::refusing;
+use held::quick::stilling;
 use held::quick::temping;
 use held::reply::Reply;
+use held::rise::rising;
+use held::rise::strikes;
 use held::state::Held;
 use held::state::held_of;
 use tick::distance::Distance;
 use time::units::Cycle;
+ghost use Prim.Native.Nat.{_≤_};
+ghost use mathlib.Core.Bool.{true, false};
 ghost use mathlib.Core.Path.{_≡_};
+ghost use lib.Dec.{eqb};
+ghost use lib.ListN.{length};
 ghost use Rattle.answers.specs.Answers.{Tells};
 ghost use Rattle.counter.specs.Fresh.{startedOf};
 ghost use Rattle.tick.specs.Distance.{distanceOf};
@@ -30,7 +38,9 @@ ghost use Rattle.passage.specs.Passage.{ticks};
 ghost use Rattle.timer.specs.Calls.{answered};
 ghost use Rattle.timer.specs.declared.calls.Call.{Call};
 ghost use Rattle.held.specs.Held.{Kept};
+ghost use Rattle.held.specs.Quick.{refusing};
 ghost use Rattle.held.specs.Reply.{Serves, Served, countLow};
+ghost use Rattle.held.specs.Rise.{strikesOf};
 ghost use Rattle.shell.specs.Numbers.{callOf, shape, answeredTo, Begins, High};
 
 // The refusal's number, 0 for none, and the timer.
@@ -78,7 +88,7 @@ pub extern "C" fn paddlemauve_shape() -> Shape
     ensures { λ r. ⌜ r ≡ shape ⌝ }
 {
     Shape {
-        size: 200,
+        size: 248,
         align: 8,
     }
 }
@@ -126,15 +136,77 @@ pub extern "C" fn paddlemauve_call(t: &mut Held, asked: Asked, area: &mut [u8]) 
     s.reply
 }
 
-// Time passes up to a cycle, or to the first tick whose records do not fit.
-#[no_mangle]
-pub extern "C" fn paddlemauve_advance(t: &mut Held, cycle: u64, area: &mut [u8]) -> Reply
+// Time passes up to a cycle below the next event.
+fn still(t: &mut Held, cycle: u64) -> Reply
+    requires { ⌜ (Kept (now t)) × (refusing true (now t .timer .clock .latest .0) (now t .next) cycle ≡ 0) ⌝ }
+    ensures { λ r. ⌜ Served (now (t .entry) .timer) Call.Advance cycle (now (t .exit)) r ⌝ }
+{
+    let a = stilling(t.timer.counter, t.timer.clock, t.shift, t.down, cycle);
+    t.timer.counter = a.counter;
+    t.timer.clock = a.clock;
+    Reply::new(0, 6, 0, 0, t.next, t.flags)
+}
+
+// Event after event of a rising count.
+fn climb(t: &mut Held, cycle: u64, area: &mut [u8]) -> Reply
+    requires { ⌜ (Kept (now t)) × (strikesOf (now t .scene .kind) (now t .timer .counter .blocked) (now t .timer .clock .latest .0) (now t .next) cycle (length (now area)) ≡ true) × (now t .next ≤ cycle) ⌝ }
+    ensures { λ r. ⌜ Serves (answered ticks (now (t .entry) .timer) Call.Advance cycle (now (area .entry))) (now (t .exit)) r (now (area .exit)) ⌝ }
+{
+    let a = rising(*t, cycle, area);
+    t.timer.counter.count = a.count;
+    t.timer.counter.odometer = a.odometer;
+    t.timer.ocr = a.ocr;
+    t.timer.oc = a.oc;
+    t.timer.drives = a.drives;
+    t.timer.flags.tifr = a.tifr;
+    t.timer.clock.sync.0 = a.sync;
+    t.timer.clock.latest.0 = a.latest;
+    t.next = a.next;
+    t.top = a.top;
+    t.flags = a.flags;
+    a.reply
+}
+
+// Any advance, by value.
+fn onward(t: &mut Held, cycle: u64, area: &mut [u8]) -> Reply
     requires { ⌜ Kept (now t) ⌝ }
     ensures { λ r. ⌜ Serves (answered ticks (now (t .entry) .timer) Call.Advance cycle (now (area .entry))) (now (t .exit)) r (now (area .exit)) ⌝ }
 {
     let s = advance(*t, cycle, area);
     *t = s.held;
     s.reply
+}
+
+// An advance that works events, or is turned away: from what is kept where no match is blocked, the count rises and any tick's records fit.
+fn work(t: &mut Held, cycle: u64, area: &mut [u8]) -> Reply
+    requires { ⌜ (Kept (now t)) × (eqb (refusing true (now t .timer .clock .latest .0) (now t .next) cycle) 0 ≡ false) ⌝ }
+    ensures { λ r. ⌜ Serves (answered ticks (now (t .entry) .timer) Call.Advance cycle (now (area .entry))) (now (t .exit)) r (now (area .exit)) ⌝ }
+{
+    if strikes(
+        t.scene.kind,
+        t.timer.counter.blocked,
+        t.timer.clock.latest.0,
+        t.next,
+        cycle,
+        area.len(),
+    ) {
+        return climb(t, cycle, area);
+    } else {
+        return onward(t, cycle, area);
+    }
+}
+
+// Time passes up to a cycle, or to the first tick whose records do not fit.
+#[no_mangle]
+pub extern "C" fn paddlemauve_advance(t: &mut Held, cycle: u64, area: &mut [u8]) -> Reply
+    requires { ⌜ Kept (now t) ⌝ }
+    ensures { λ r. ⌜ Serves (answered ticks (now (t .entry) .timer) Call.Advance cycle (now (area .entry))) (now (t .exit)) r (now (area .exit)) ⌝ }
+{
+    if refusing(true, t.timer.clock.latest.0, t.next, cycle) == 0 {
+        return still(t, cycle);
+    } else {
+        return work(t, cycle, area);
+    }
 }
 
 // Yields the next event with its flags.

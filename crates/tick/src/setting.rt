@@ -13,6 +13,7 @@ ghost use Rattle.tick.specs.Skip.{linear};
 ghost use Rattle.tick.specs.Sound.{Steady};
 
 // A compare channel: its COM field, whether it drives its pin, the pin, and its TIFR bit.
+#[repr(C)]
 pub struct Channel {
     pub comx: u8,
     pub enabled: bool,

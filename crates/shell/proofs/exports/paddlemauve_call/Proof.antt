@@ -90,7 +90,7 @@ called-vals s = vcons (held-of (s .held)) (vcons (reply-of (s .reply)) vnil)
 held-at : fieldOf D′.mir 0 ≡ some-at (T′.mir, 0)
 held-at = refl
 
-reply-at : fieldOf D′.mir 1 ≡ some-at (E′.mir, 200)
+reply-at : fieldOf D′.mir 1 ≡ some-at (E′.mir, 248)
 reply-at = refl
 
 val-is : (s : Called) (v : Val) → Is D.the-row s (v ∷ []) → v ≡ vstruct (called-vals s)

@@ -1,0 +1,36 @@
+-- An advance over events of a rising count, from what is kept.
+use Prim.Native.Nat.{ℕ}
+use mathlib.Core.Bool.{Bool, false, not, _&&_}
+use lib.Dec.{eqb, leb}
+use Rattle.wave.specs.Kinds.{P}
+use Rattle.time.specs.Clock.{clockAt}
+use Rattle.held.specs.declared.rise.Risen.{Risen}
+use Rattle.held.specs.declared.state.Held.{Held}
+use Rattle.held.specs.Quick.{refusing}
+
+-- the cycle is accepted, no match is blocked, the count rises, and any tick's records fit
+unfoldable pub strikesOf : ℕ → Bool → ℕ → ℕ → ℕ → ℕ → Bool
+strikesOf kind blocked latest next cycle room = ((eqb (refusing false latest next cycle) 0 && not blocked) && not (leb P kind)) && leb 110 room
+
+-- a held timer with what such an advance changes; mode, divisor and the way of the count stay
+abbrev pub risenIn : Held → Risen → Held
+risenIn h r = record {
+  timer = record {
+    config = h .timer .config;
+    counter = record { count = r .count; direction = h .timer .counter .direction; blocked = h .timer .counter .blocked; odometer = r .odometer };
+    ocr = r .ocr;
+    buffer = h .timer .buffer;
+    oc = r .oc;
+    drives = r .drives;
+    registers = h .timer .registers;
+    flags = record { tifr = r .tifr; timsk = h .timer .flags .timsk };
+    clock = clockAt (r .sync) (h .timer .clock .origin .0) (r .latest);
+    halts = h .timer .halts;
+  };
+  scene = h .scene;
+  next = r .next;
+  top = r .top;
+  flags = r .flags;
+  shift = h .shift;
+  down = h .down;
+}

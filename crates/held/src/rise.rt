@@ -1,0 +1,107 @@
+// An advance over events of a rising count.
+
+use crate::quick::refusing;
+use crate::reply::Reply;
+use crate::state::Held;
+use strike::Rise;
+use tick::setting::Drives;
+use wave::count::counted;
+use wave::kinds::dual_slope;
+ghost use Prim.Native.Nat.{_≤_, max};
+ghost use mathlib.Core.Path.{_≡_};
+ghost use mathlib.Core.Bool.{true};
+ghost use lib.ListN.{length};
+ghost use Rattle.passage.specs.Passage.{ticks};
+ghost use Rattle.timer.specs.Calls.{answered};
+ghost use Rattle.timer.specs.declared.calls.Call.{Call};
+ghost use Rattle.held.specs.Held.{Kept};
+ghost use Rattle.held.specs.Reply.{Serves};
+ghost use Rattle.held.specs.Rise.{strikesOf, risenIn};
+
+// May an advance strike the events from what is kept: the cycle is accepted, the count rises, no match is blocked, and any tick's records fit.
+pub fn strikes(kind: u8, blocked: bool, latest: u64, next: u64, cycle: u64, room: usize) -> bool
+    ensures { λ r. ⌜ r ≡ strikesOf kind blocked latest next cycle room ⌝ }
+{
+    (refusing(false, latest, next, cycle) == 0) & !blocked & !dual_slope(kind) & (110 <= room)
+}
+
+fn later(a: u64, b: u64) -> u64
+    ensures { λ r. ⌜ r ≡ max a b ⌝ }
+{
+    if a <= b { b } else { a }
+}
+
+// What such an advance changes of a held timer, and its reply.
+pub struct Risen {
+    pub count: u32,
+    pub odometer: u64,
+    pub ocr: [u32; 3],
+    pub oc: [u8; 3],
+    pub drives: Drives,
+    pub tifr: u8,
+    pub sync: u64,
+    pub latest: u64,
+    pub next: u64,
+    pub top: u32,
+    pub flags: u8,
+    pub reply: Reply,
+}
+
+// Event after event up to a cycle, or to the first whose records do not fit; then the quiet ticks before it.
+pub fn rising(h: Held, cycle: u64, area: &mut [u8]) -> Risen
+    requires { ⌜ (Kept h) × (strikesOf (h .scene .kind) (h .timer .counter .blocked) (h .timer .clock .latest .0) (h .next) cycle (length (now area)) ≡ true) × (h .next ≤ cycle) ⌝ }
+    ensures { λ r. ⌜ Serves (answered ticks (h .timer) Call.Advance cycle (now (area .entry))) (risenIn h r) (r .reply) (now (area .exit)) ⌝ }
+{
+    let t = h.timer;
+    let was = t.counter;
+    let clock = t.clock;
+    let origin = clock.origin;
+    let sync = clock.sync;
+    let latest = clock.latest;
+    let ocr = t.ocr;
+    let oc = t.oc;
+    let drives = t.drives;
+    let flags = t.flags;
+    let scene = h.scene;
+    let shift = h.shift;
+    let start = Rise {
+        next: h.next,
+        to: 0,
+        count: was.count,
+        gap: ((h.next - 1 - sync.0) >> shift) as u32,
+        top: h.top,
+        ocr,
+        oc,
+        drives,
+        tifr: flags.tifr,
+        flags: h.flags,
+    };
+    let e = start.rising(scene, shift, cycle, area);
+    let paused = e.next <= cycle;
+    let last = e.next - (1 << shift);
+    let end = if paused { later(sync.0, last) } else { cycle };
+    let left = ((e.next - 1 - end) >> shift) as u32;
+    let ticks = ((end - origin.0) >> shift) - ((sync.0 - origin.0) >> shift);
+    let ocr = e.ocr;
+    let oc = e.oc;
+    let drives = e.drives;
+    let reply = if paused {
+        Reply::new(0, 4, end, e.to, e.next, e.flags)
+    } else {
+        Reply::new(0, 6, 0, e.to, e.next, e.flags)
+    };
+    Risen {
+        count: e.count + (e.gap - left),
+        odometer: counted(was.odometer, ticks),
+        ocr,
+        oc,
+        drives,
+        tifr: e.tifr,
+        sync: end,
+        latest: later(latest.0, end),
+        next: e.next,
+        top: e.top,
+        flags: e.flags,
+        reply,
+    }
+}

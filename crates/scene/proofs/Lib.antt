@@ -1,0 +1,6 @@
+pub mod Choices
+pub mod Told
+pub mod Driven
+pub mod Masks
+pub mod Laws
+pub mod Flags
