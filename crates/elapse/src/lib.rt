@@ -15,6 +15,7 @@ ghost use Rattle.answers.specs.Answers.{Tells};
 ghost use Rattle.timer.specs.Calls.{answered};
 ghost use Rattle.timer.specs.declared.calls.Call.{Call};
 
+// Time passes up to a cycle, or to the first tick whose records do not fit; yields the flags of the then next event, and the
 // sync cycle where it stops.
 pub fn advance(t: Timer, cycle: Cycle, area: &mut [u8]) -> Outcome
     requires { ⌜ Valid t ⌝ }

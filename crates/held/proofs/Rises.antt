@@ -164,15 +164,6 @@ asked h cycle room k e n =
     go true r l = r
     go false r l = let q : h .next ≡ never = k .next ∙ sym (none-next (h .timer) r) in absurd (omega arith)
 
--- a cycle that is accepted, but not below the next event
-pub struck-due : (latest next cycle : ℕ) → (refusing true latest next cycle ≡ 0 → ⊥) → refusing false latest next cycle ≡ 0 → next ≤ cycle
-unfolding refusing
-struck-due latest next cycle n h = go (leb next cycle) refl
-  where
-    go : (b : Bool) → leb next cycle ≡ b → next ≤ cycle
-    go true e = leb-true _ _ e
-    go false e = absurd (n (simp (not-late latest next cycle h, e)))
-
 -- ---- where it begins
 abbrev pub startOf : Held → Rise
 startOf h = record {
