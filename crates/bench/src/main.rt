@@ -30,9 +30,9 @@ use linewise::cut;
 use log::BYTES;
 use page::Page;
 use page::SIZE;
-use timer_lines::called::FILL;
-use timer_lines::called::ROOM;
-use timer_lines::called::Room;
+use room::FILL;
+use room::ROOM;
+use room::Room;
 ghost use Rattle.bench.specs.Bench.{Whole};
 
 // Answers the lines that end in a piece, and holds what is left.

@@ -4,7 +4,7 @@ use crate::bench::Bench;
 use page::Page;
 use page::number;
 use page::text;
-use timer_lines::called::FILL;
+use room::FILL;
 use words::FINE;
 use words::NOT_OPENED;
 use words::Taken;

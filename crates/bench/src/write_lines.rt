@@ -8,7 +8,7 @@ use display::answer::records;
 use page::Page;
 use page::number;
 use page::text;
-use timer_lines::called::FILL;
+use room::FILL;
 use timer_lines::socket::Socket;
 use words::Cursor;
 use words::EXTRA_WORD;

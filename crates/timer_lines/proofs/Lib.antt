@@ -1,6 +1,5 @@
 pub mod Sizes
 pub mod Asking
 pub mod Telling
-pub mod Filling
 pub mod Showing
 pub mod Making

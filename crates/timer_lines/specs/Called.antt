@@ -1,12 +1,12 @@
 -- The answer of a call's line (docs/SCRIPT.md, "Answers"), and the timer that it leaves.
 use Prim.Native.Nat.{ℕ}
-use mathlib.Core.Bool.{true, cond}
+use mathlib.Core.Bool.{cond}
 use mathlib.Core.List.{List, _++_}
 use mathlib.Core.Path.{_≡_}
 use lib.Dec.{eqb, ltb}
-use lib.ListN.{length, drop, replicate}
+use lib.ListN.{length, drop}
 use Rattle.figures.specs.Figures.{text, decimal}
-use Rattle.words.specs.Words.{firstFrom, sought}
+use Rattle.room.specs.Room.{filled, changedAt}
 use Rattle.page.specs.Page.{Puts, unreadableOf}
 use Rattle.passage.specs.Passage.{ticks}
 use Rattle.counter.specs.Valid.{Valid}
@@ -29,14 +29,6 @@ pub record Lined : Type 0 where
 -- a line that changes nothing
 abbrev pub saying : Socket → List ℕ → List ℕ → Lined
 saying s area bytes = record { socket = s; bytes = bytes; area = area; written = 0 }
-
--- "The area holds `A5` in every byte before each call"
-unfoldable pub filled : ℕ → List ℕ
-filled size = replicate size 165
-
--- the first place behind what was written that does not hold A5, else the area's end
-abbrev pub changedAt : List ℕ → ℕ → ℕ
-changedAt area written = firstFrom (sought 165 true) area written
 
 -- "`area changed at I` in place of the answer" where the rest of the area does not hold A5
 unfoldable pub toldOf : Outcome → List ℕ → List ℕ

@@ -9,41 +9,23 @@ use page::Page;
 use page::number;
 use page::text;
 use page::unreadable;
+use room::changed;
+use room::fill;
 use time::units::Cycle;
 use words::FINE;
-use words::seek;
 ghost use Prim.Native.Nat.{_≤_};
 ghost use mathlib.Core.Path.{_≡_};
 ghost use lib.ListN.{length};
 ghost use Rattle.counter.specs.Valid.{Valid};
 ghost use Rattle.page.specs.Page.{Puts};
-ghost use Rattle.timer_lines.specs.Called.{filled, toldOf, calledOf, callLine, Leaves};
-
-// What stands in every byte of an area before a call.
-pub const FILL: u8 = 0xa5;
-
-// The bytes of the largest area.
-pub const ROOM: usize = 4096;
-
-pub type Room = [u8; ROOM];
-
-// Fills an area.
-fn fill(area: &mut [u8])
-    ensures { λ r. ⌜ now (area .exit) ≡ filled (length (now (area .entry))) ⌝ }
-{
-    let mut i = 0;
-    while i < area.len() {
-        area[i] = FILL;
-        i += 1;
-    }
-}
+ghost use Rattle.timer_lines.specs.Called.{toldOf, calledOf, callLine, Leaves};
 
 // Puts a call's answer, or where the area changed beyond what was written.
 fn told(page: &mut Page, from: usize, o: Outcome, area: &[u8]) -> usize
     requires { ⌜ Valid (o .timer) ⌝ }
     ensures { λ r. ⌜ Puts (now (page .entry)) from (now (page .exit)) r (toldOf o (now (area .entry))) ⌝ }
 {
-    let end = seek(area, o.written, FILL, true);
+    let end = changed(area, o.written);
     if end < area.len() {
         return number(page, from, b"area changed at ", end as u64);
     }

@@ -8,11 +8,11 @@ use Rattle.timer_lines.proofs.called.told.Tie as tie
 
 returns : tie.Need-returns
 unfolding codes toldOf
-returns c = rw (← c .before .before .before .before .seek .ensures .2, lt-ltb (c .before .before .before .before .seek .result) _ (c .before .before .before .if1 .taken)) (c .number .ensures)
+returns c = rw (← c .before .before .before .before .changed .ensures, lt-ltb (c .before .before .before .before .changed .result) _ (c .before .before .before .if1 .taken)) (c .number .ensures)
 
 returns-2 : tie.Need-returns-2
 unfolding toldOf
-returns-2 c = rw (← c .before .before .before .seek .ensures .2, le-ltb (c .before .before .before .seek .result) _ (c .before .before .if1 .left)) (c .answer .ensures)
+returns-2 c = rw (← c .before .before .before .changed .ensures, le-ltb (c .before .before .before .changed .result) _ (c .before .before .if1 .left)) (c .answer .ensures)
 
 pub told-spec : {M : Type 1} → statement M
 told-spec =

@@ -1,4 +1,4 @@
--- `timer_lines::called::fill` meets its contract. The loop's invariant: as many bytes are filled as it has passed.
+-- `room::fill` meets its contract. The loop's invariant: as many bytes are filled as it has passed.
 use Prim.Native.Nat.{_≤_, _-_}
 use mathlib.Core.List.{_++_}
 use mathlib.Core.Path.{_≡_, refl, _∙_}
@@ -6,9 +6,9 @@ use native.Mathlib.Omega.{arith}
 use borrow.Author.Needs.{needs}
 use borrow.Author.Fill.{fill-none}
 use lib.ListN.{length, set, length-set, drop, replicate}
-use Rattle.timer_lines.proofs.Filling.{fill-on, fill-all}
-use Rattle.timer_lines.proofs.called.fill.Statement.{statement}
-use Rattle.timer_lines.proofs.called.fill.Tie as tie
+use Rattle.room.proofs.Filling.{fill-on, fill-all}
+use Rattle.room.proofs.fill.Statement.{statement}
+use Rattle.room.proofs.fill.Tie as tie
 
 abbrev Inv-loop : tie.InvT-loop
 Inv-loop area₀ i₀ area i = (i ≤ length area₀) × (length area ≡ length area₀) × (area ≡ replicate i 165 ++ drop i area₀)

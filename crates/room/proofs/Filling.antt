@@ -5,7 +5,7 @@ use mathlib.Core.Path.{_≡_, ap, _∙_}
 use native.Mathlib.Omega.{arith}
 use borrow.Author.Fill.{fill-more}
 use lib.ListN.{length, set, drop, replicate, drop-of-length-le}
-use Rattle.timer_lines.specs.Called.{filled}
+use Rattle.room.specs.Room.{filled}
 
 -- one byte more
 pub fill-on : (area was : List ℕ) (i : ℕ) → i < length was → area ≡ replicate i 165 ++ drop i was → set area i 165 ≡ replicate (i + 1) 165 ++ drop (i + 1) was
