@@ -1,0 +1,5 @@
+pub mod Desk
+pub mod Lines
+pub mod Named
+pub mod Shelved
+pub mod Steps
