@@ -1,6 +1,6 @@
 -- What each line leaves of the bench, from what its own crate says of it (docs/SCRIPT.md).
 use Prim.Native.Nat.{ℕ}
-use mathlib.Core.Bool.{true, cond, _&&_}
+use mathlib.Core.Bool.{Bool, true, cond, _&&_}
 use mathlib.Core.List.{List}
 use mathlib.Core.Path.{_≡_}
 use lib.Dec.{eqb}
@@ -17,7 +17,10 @@ use Rattle.log_lines.specs.Logged as log
 use Rattle.timer_lines.specs.Called as timer
 use Rattle.timer_lines.specs.Made as made
 use Rattle.wdt_lines.specs.Called as wdt
+use Rattle.door_lines.specs.declared.rules.Doors.{Doors}
+use Rattle.log.specs.declared.Ring.{Ring}
 use Rattle.timer_lines.specs.declared.socket.Socket.{Socket}
+use Rattle.wdt_lines.specs.declared.called.Watched.{Watched}
 use Rattle.bench_lines.specs.declared.desk.Bench.{Bench}
 use Rattle.bench_lines.specs.declared.lines.Said.{Said}
 use Rattle.bench_lines.specs.Desk.{Sound}
@@ -43,19 +46,22 @@ keptOf whose written = cond (eqb whose 3) written 0
 abbrev pub timedOf : Bench → timer.Lined → Told
 timedOf b x = telling (worked b (x .socket) (b .items) (keptOf (b .whose) (x .written))) (x .bytes)
 
+-- the bench with another timer, and whether the file is begun anew
+abbrev pub making : Bench → Socket → Bool → Bench
+making b s anew =
+    record { socket = s; watched = b .watched; doors = b .doors; ring = b .ring; items = b .items; line = b .line; whose = b .whose; kept = b .kept; anew = anew }
+
 -- `config` and `preset`: "the file is begun anew here and at every accepted configuration"
 abbrev pub configuredOf : Bench → made.Configured → Told
-configuredOf b x =
-    telling
-    (record { socket = x .socket; watched = b .watched; doors = b .doors; ring = b .ring; items = b .items; line = b .line; whose = b .whose; kept = b .kept; anew = x .fresh && eqb (b .whose) 3 })
-    (x .bytes)
+configuredOf b x = telling (making b (x .socket) (x .fresh && eqb (b .whose) 3)) (x .bytes)
+
+-- the bench with another watchdog, another door, another log
+abbrev pub keeping : Bench → Watched → Doors → Ring → Bench
+keeping b w d ring = record { socket = b .socket; watched = w; doors = d; ring = ring; items = b .items; line = b .line; whose = b .whose; kept = b .kept; anew = b .anew }
 
 -- a watchdog's line: its records "are not among them"
 abbrev pub watchedOf : Bench → wdt.Lined → Told
-watchedOf b x =
-    telling
-    (record { socket = b .socket; watched = x .watched; doors = b .doors; ring = b .ring; items = b .items; line = b .line; whose = b .whose; kept = b .kept; anew = b .anew })
-    (x .bytes)
+watchedOf b x = telling (keeping b (x .watched) (b .doors) (b .ring)) (x .bytes)
 
 -- `writes`
 abbrev pub listedOf : Bench → list.Lined → Told
@@ -67,17 +73,11 @@ itemedOf b x = telling (worked b (b .socket) (x .items) (b .kept)) (x .bytes)
 
 -- a door's line
 abbrev pub dooredOf : Bench → door.Lined → Told
-dooredOf b x =
-    telling
-    (record { socket = b .socket; watched = b .watched; doors = x .doors; ring = b .ring; items = b .items; line = b .line; whose = b .whose; kept = b .kept; anew = b .anew })
-    (x .bytes)
+dooredOf b x = telling (keeping b (b .watched) (x .doors) (b .ring)) (x .bytes)
 
 -- a log's line
 abbrev pub loggedOf : Bench → log.Lined → Told
-loggedOf b x =
-    telling
-    (record { socket = b .socket; watched = b .watched; doors = b .doors; ring = x .ring; items = b .items; line = b .line; whose = b .whose; kept = b .kept; anew = b .anew })
-    (x .bytes)
+loggedOf b x = telling (keeping b (b .watched) (b .doors) (x .ring)) (x .bytes)
 
 -- "record | record T": whose records, the script's timer's where there is no word, else "the board's timer T"
 unfoldable pub whoseOf : List ℕ → ℕ → Taken

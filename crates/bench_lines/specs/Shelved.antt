@@ -1,6 +1,6 @@
 -- The lines on the scheduler and on the board (docs/SCRIPT.md, "Pins and the scheduler", "The board").
 use Prim.Native.Nat.{ℕ}
-use mathlib.Core.Bool.{cond, _&&_}
+use mathlib.Core.Bool.{Bool, cond, _&&_}
 use mathlib.Core.List.{List, [], _∷_, _++_}
 use mathlib.Core.Path.{_≡_}
 use lib.Dec.{eqb, ltb}
@@ -35,10 +35,14 @@ scheduledOf b s areas x = working b (record { scheduler = x .0; boarded = s .boa
 unfoldable pub boardKept : ℕ → Written → ℕ
 boardKept whose w = cond (eqb whose 0) (w .zero) (cond (eqb whose 1) (w .one) (cond (eqb whose 2) (w .two) 0))
 
--- the bench after a board's line: "with T at every `board new`" the file is begun anew
+-- the bench with so many bytes for the file, and whether that is begun anew
+abbrev pub filed : Bench → ℕ → Bool → Bench
+filed b kept anew =
+    record { socket = b .socket; watched = b .watched; doors = b .doors; ring = b .ring; items = b .items; line = b .line; whose = b .whose; kept = kept; anew = anew }
+
+-- after a board's line: "with T at every `board new`" the file is begun anew
 abbrev pub filedOf : Bench → Lined → Bench
-filedOf b x =
-    record { socket = b .socket; watched = b .watched; doors = b .doors; ring = b .ring; items = b .items; line = b .line; whose = b .whose; kept = boardKept (b .whose) (x .written); anew = x .fresh && ltb (b .whose) 3 }
+filedOf b x = filed b (boardKept (b .whose) (x .written)) (x .fresh && ltb (b .whose) 3)
 
 -- the board that an order leaves
 abbrev pub takenOf : Bench → Shelf → Lined → Worked

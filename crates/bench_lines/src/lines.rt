@@ -21,6 +21,13 @@ use words::decimal;
 use words::exactly;
 use words::skip;
 ghost use mathlib.Core.Path.{_≡_};
+ghost use Rattle.door_lines.specs.Rules.{doorLine};
+ghost use Rattle.list_lines.specs.Items.{itemLine};
+ghost use Rattle.list_lines.specs.Lists.{writesLine};
+ghost use Rattle.log_lines.specs.Logged.{logLine};
+ghost use Rattle.timer_lines.specs.Made.{configLine};
+ghost use Rattle.timer_lines.specs.Named.{timerLine};
+ghost use Rattle.wdt_lines.specs.Called.{wdtLine};
 ghost use Rattle.bench_lines.specs.Desk.{Sound};
 ghost use Rattle.bench_lines.specs.Lines.{Says, keptOf, timedOf, configuredOf, watchedOf, listedOf, itemedOf, dooredOf, loggedOf, whoseOf, recordedOf};
 

@@ -25,7 +25,7 @@ ghost use Prim.Native.Nat.{_≤_};
 ghost use mathlib.Core.Path.{_≡_};
 ghost use lib.ListN.{length};
 ghost use Rattle.bench_lines.specs.Desk.{Sound};
-ghost use Rattle.bench_lines.specs.Named.{Leaves, Hears, lent, namedOf, wordedOf};
+ghost use Rattle.bench_lines.specs.Named.{Leaves, Hears, lent, nothing, namedOf, wordedOf};
 
 // The places of `sched` and `board` among the names below.
 pub const SCHED: usize = 9;

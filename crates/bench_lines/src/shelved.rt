@@ -18,8 +18,11 @@ use words::FINE;
 ghost use Prim.Native.Nat.{_≤_};
 ghost use mathlib.Core.Path.{_≡_};
 ghost use lib.ListN.{take};
+ghost use Rattle.script.specs.Sched.{schedOf};
+ghost use Rattle.board.specs.Calls.{Areas, areasOf};
+ghost use Rattle.board_lines.specs.Asked.{askedOf};
 ghost use Rattle.bench_lines.specs.Desk.{Sound, Stable};
-ghost use Rattle.bench_lines.specs.Shelved.{Shelves, rooms, boardKept, scheduledOf, orderedOf, shelvedOf};
+ghost use Rattle.bench_lines.specs.Shelved.{Works, boardKept, scheduledOf, orderedOf, answeredOf, shelvedOf};
 
 // The bench and the shelf after a line, and the place after what was put on the page.
 pub struct Left {
@@ -31,6 +34,7 @@ pub struct Left {
 // A scheduler's line.
 fn scheduled(b: Bench, s: Shelf, page: &mut Page, from: usize, line: &[u8], at: usize) -> Left
     requires { ⌜ (Sound b) × Stable s ⌝ }
+    ensures { λ r. ⌜ ((areas : Areas) → Works (scheduledOf b s areas (schedOf (s .scheduler) (b .line) (now (line .entry)) at)) (now (page .entry)) from (now (page .exit)) (areas .zero) (areas .one) (areas .two) r) ⌝ }
 {
     let left = sched_line(s.scheduler, page, from, b.line, line, at);
     let scheduler = left.scheduler;
@@ -68,6 +72,7 @@ fn ordered(
     two: &mut Room,
 ) -> Left
     requires { ⌜ (Sound b) × Stable s ⌝ }
+    ensures { λ r. ⌜ Works (orderedOf b s (areasOf (now (room .entry)) (now (one .entry)) (now (two .entry))) (askedOf (now (line .entry)) at)) (now (page .entry)) from (now (page .exit)) (now (room .exit)) (now (one .exit)) (now (two .exit)) r ⌝ }
 {
     let asked = Asked::of(line, at);
     if asked.why != FINE {
@@ -104,6 +109,7 @@ fn answered(
     two: &mut Room,
 ) -> Left
     requires { ⌜ (Sound b) × Stable s ⌝ }
+    ensures { λ r. ⌜ Works (answeredOf b s (areasOf (now (room .entry)) (now (one .entry)) (now (two .entry))) (now (line .entry)) (later .which) (later .at)) (now (page .entry)) from (now (page .exit)) (now (room .exit)) (now (one .exit)) (now (two .exit)) r ⌝ }
 {
     if later.which == SCHED {
         return scheduled(b, s, page, from, line, later.at);
@@ -124,9 +130,11 @@ pub fn shelved(
     two: &mut Room,
 ) -> Left
     requires { ⌜ (Sound b) × (Stable s) × (later .end ≤ 500) ⌝ }
+    ensures { λ r. ⌜ Works (shelvedOf b s (areasOf (now (room .entry)) (now (one .entry)) (now (two .entry))) (take (later .end) (now (line .entry))) (later .which) (later .at)) (now (page .entry)) from (now (page .exit)) (now (room .exit)) (now (one .exit)) (now (two .exit)) r ⌝ }
 {
+    let all = &line[..];
     let end = later.end;
-    let mut left = answered(b, s, page, from, &line[0..end], later, room, one, two);
+    let mut left = answered(b, s, page, from, &all[0..end], later, room, one, two);
     left.at = byte(page, left.at, b'\n');
     left
 }

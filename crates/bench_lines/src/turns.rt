@@ -15,10 +15,13 @@ use room::Room;
 use words::TOO_LONG;
 use words::find;
 use words::skip;
-ghost use Prim.Native.Nat.{_≤_, _<_};
+ghost use Prim.Native.Nat.{ℕ, _≤_, _<_};
+ghost use mathlib.Core.List.{List};
 ghost use mathlib.Core.Path.{_≡_};
-ghost use lib.ListN.{length};
+ghost use lib.ListN.{length, take};
 ghost use Rattle.bench_lines.specs.Desk.{Sound};
+ghost use Rattle.bench_lines.specs.Named.{Asking, Hears, lent};
+ghost use Rattle.bench_lines.specs.Steps.{Held, Turns, counted, endedOf, heardOf, firstOf};
 
 // The bench after a piece up to a place, the page's place, how many bytes are held of a line that has not ended, whether one did, and what that asks of the
 // shelf.
@@ -34,6 +37,7 @@ pub struct Turned {
 // The bench at the next line: its number, which goes on from 2^64 - 1 to 0, and nothing for the file.
 fn counted(b: Bench) -> Bench
     requires { ⌜ Sound b ⌝ }
+    ensures { λ r. ⌜ (Sound r) × (r ≡ counted b) ⌝ }
 {
     let mut b = b;
     b.line = std::num::wrapping_add_u64(b.line, 1);
@@ -43,7 +47,9 @@ fn counted(b: Bench) -> Bench
 }
 
 // Ends an answer, unless it is still to come.
-fn ended(h: Heard, page: &mut Page) -> Heard {
+fn ended(h: Heard, page: &mut Page) -> Heard
+    ensures { λ r. ⌜ ((x : Asking) (old : List ℕ) (from : ℕ) (room area items : List ℕ) → Hears x old from (now (page .entry)) room area items h → Hears (endedOf x) old from (now (page .exit)) room area items r) ⌝ }
+{
     let later = h.later;
     if later.which != 0 {
         return h;
@@ -64,6 +70,7 @@ fn heard(
     items: &mut Items,
 ) -> Heard
     requires { ⌜ Sound b ⌝ }
+    ensures { λ r. ⌜ Hears (heardOf b (now (line .entry)) (lent (now (room .entry)) (now (area .entry)) (now (items .entry)))) (now (page .entry)) from (now (page .exit)) (now (room .exit)) (now (area .exit)) (now (items .exit)) r ⌝ }
 {
     let start = skip(line, 0);
     if start == line.len() {
@@ -89,6 +96,7 @@ fn step(
     items: &mut Items,
 ) -> Heard
     requires { ⌜ Sound b ⌝ }
+    ensures { λ r. ⌜ (Sound (r .bench)) × (r .later .end ≤ 500) × ((bytes : List ℕ) → Held (now (line .entry)) held bytes → (Hears (firstOf b bytes (lent (now (room .entry)) (now (area .entry)) (now (items .entry)))) (now (page .entry)) from (now (page .exit)) (now (room .exit)) (now (area .exit)) (now (items .exit)) r) × (take (r .later .end) (now (line .entry)) ≡ take (r .later .end) bytes)) ⌝ }
 {
     let b = counted(b);
     if line.len() < held {
@@ -99,8 +107,9 @@ fn step(
             later: Later::nothing(),
         };
     }
-    let end = find(&line[0..held], 0, b'#');
-    heard(b, page, from, &line[0..end], room, area, items)
+    let all = &line[..];
+    let end = find(&all[0..held], 0, b'#');
+    heard(b, page, from, &all[0..end], room, area, items)
 }
 
 // Reads a piece from a place on to the end of a line, or its own, and answers the line that ended.
@@ -117,6 +126,7 @@ pub fn turn(
     items: &mut Items,
 ) -> Turned
     requires { ⌜ (Sound b) × (start < length (now input)) ⌝ }
+    ensures { λ r. ⌜ (Sound (r .bench)) × (r .later .end ≤ 500) × (start < r .next) × (r .next ≤ length (now (input .entry))) × ((bytes : List ℕ) → Held (now (line .entry)) held bytes → Turns b (lent (now (room .entry)) (now (area .entry)) (now (items .entry))) bytes (now (input .entry)) start (now (page .entry)) from (now (page .exit)) (now (room .exit)) (now (area .exit)) (now (items .exit)) (now (line .exit)) r) ⌝ }
 {
     let reached = cut(input, start, line, held);
     if reached.ended {

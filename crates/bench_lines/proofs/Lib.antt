@@ -1,0 +1,5 @@
+pub mod Saying
+pub mod Hearing
+pub mod Shelving
+pub mod Feeding
+pub mod Stepping
