@@ -3,8 +3,8 @@
 mod files;
 mod pages;
 
-use crate::files::NOT_WRITTEN;
 use crate::files::NO_FILE;
+use crate::files::NOT_WRITTEN;
 use crate::files::filed;
 use crate::pages::flush;
 use crate::pages::turned;
@@ -41,7 +41,7 @@ struct Run {
 }
 
 // The bench after a line and the file, the page's place, the descriptor, and whether the line counts.
-struct Settled {
+struct Outcome {
     bench: Bench,
     at: usize,
     fd: i32,
@@ -69,13 +69,11 @@ fn settled(
     room: &Room,
     one: &Room,
     two: &Room,
-) -> Settled
+) -> Outcome
     requires { ⌜ (Sound before) × Sound after ⌝ }
     ensures { λ r. ⌜ Sound (r .bench) ⌝ }
 {
-    let file = filed(
-        fd, after.anew, after.kept, after.whose, room, one, two,
-    );
+    let file = filed(fd, after.anew, after.kept, after.whose, room, one, two);
     let at = if file.why == FINE {
         to
     } else {
@@ -87,7 +85,7 @@ fn settled(
         bench = after;
     }
     bench.line = after.line;
-    Settled {
+    Outcome {
         bench,
         at,
         fd: file.fd,
@@ -138,7 +136,13 @@ fn piece(
             fd = s.fd;
         }
     }
-    Run { bench: b, shelf, at, held, fd }
+    Run {
+        bench: b,
+        shelf,
+        at,
+        held,
+        fd,
+    }
 }
 
 // Reads piece after piece, until none comes; a line feed ends the last line. A proved loop has to end, and nothing says that the input does: it counts its turns
@@ -180,7 +184,15 @@ fn main() {
         turns -= 1;
     }
     run = piece(
-        run, b"\n", &mut line, &mut room, &mut one, &mut two, &mut area, &mut items, &mut page,
+        run,
+        b"\n",
+        &mut line,
+        &mut room,
+        &mut one,
+        &mut two,
+        &mut area,
+        &mut items,
+        &mut page,
     );
     flush(&page, run.at);
 }
