@@ -4,7 +4,7 @@ use mathlib.Core.Bool.{cond}
 use mathlib.Core.List.{List, [], _∷_, _++_}
 use lib.Dec.{eqb}
 use lib.ListN.{take}
-use Rattle.figures.specs.Figures.{text, decimal}
+use Rattle.figures.specs.Figures.{text, number}
 use Rattle.page.specs.Page.{pair}
 use Rattle.counter.specs.Next.{nextOf}
 use Rattle.counter.specs.declared.next.Next.{Next}
@@ -24,11 +24,11 @@ bytesOf label area written = label ++ cond (eqb written 0) (text "-") (hexes (ta
 
 -- "bytes=B records=HEX": the B bytes written
 unfoldable pub recordsOf : List ℕ → ℕ → List ℕ
-recordsOf area written = (text " bytes=" ++ decimal written) ++ bytesOf (text " records=") area written
+recordsOf area written = (text " bytes=" ++ number written) ++ bytesOf (text " records=") area written
 
 -- a label and a next event's cycle, or none
 unfoldable pub cycleOf : List ℕ → Next → List ℕ
-cycleOf label (next.At cycle flags) = label ++ decimal (cycle .0)
+cycleOf label (next.At cycle flags) = label ++ number (cycle .0)
 cycleOf label next.Never = label ++ text "none"
 
 -- a label and the flags that its tick will raise, or `-`
@@ -46,12 +46,12 @@ leftBy o area = eventOf (nextOf (o .timer)) ++ recordsOf area (o .written)
 
 -- "refused N", "ok value=VV", "paused cycle=N"
 unfoldable pub saidOf : Answer → List ℕ
-saidOf (answer.Refused n) = text "refused " ++ decimal n
+saidOf (answer.Refused n) = text "refused " ++ number n
 saidOf answer.Done = text "ok value=-"
 saidOf (answer.Value v) = text "ok value=" ++ pair v
 saidOf (answer.Next e) = text "ok value=-"
 saidOf (answer.Reached f) = text "ok value=-"
-saidOf (answer.Paused cycle f) = text "paused cycle=" ++ decimal (cycle .0)
+saidOf (answer.Paused cycle f) = text "paused cycle=" ++ number (cycle .0)
 
 -- what follows it: nothing after a refusal
 unfoldable pub unlessRefused : Answer → List ℕ → List ℕ

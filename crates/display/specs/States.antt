@@ -5,7 +5,7 @@ use mathlib.Core.List.{List, _++_}
 use lib.Bits.{bitAnd}
 use lib.Dec.{eqb}
 use lib.ListN.{getD}
-use Rattle.figures.specs.Figures.{text, decimal}
+use Rattle.figures.specs.Figures.{text, number}
 use Rattle.page.specs.Page.{pair, flag}
 use Rattle.config.specs.declared.Compare.{Compare}
 use Rattle.config.specs.declared.Config.{Config}
@@ -17,7 +17,7 @@ use Rattle.counter.specs.declared.state.Timer.{Timer}
 
 -- a label and a compare's value, "`-` for an absent compare"
 unfoldable pub comparedOf : List ℕ → Compare → ℕ → List ℕ
-comparedOf label c value = cond (c .present) (label ++ decimal value) (label ++ text "-")
+comparedOf label c value = cond (c .present) (label ++ number value) (label ++ text "-")
 
 -- the values of the compares A, B and C
 unfoldable pub threeOf : List ℕ → Config → List ℕ → List ℕ
@@ -25,7 +25,7 @@ threeOf label config values = comparedOf label (config .a) (getD values 0 0) ++ 
 
 -- "a drive as enable and value", `-` for "a channel without a pin"
 unfoldable pub drivenOf : List ℕ → Compare → ℕ → ℕ → List ℕ
-drivenOf label c enable value = cond (c .wire .present) (label ++ decimal enable ++ decimal value) (label ++ text "-")
+drivenOf label c enable value = cond (c .wire .present) (label ++ number enable ++ number value) (label ++ text "-")
 
 unfoldable pub drivesOf : Timer → List ℕ
 drivesOf t =
@@ -35,18 +35,18 @@ drivesOf t =
 
 -- "oc always shows three levels"
 unfoldable pub levelsOf : List ℕ → List ℕ
-levelsOf oc = (text " oc=" ++ decimal (getD oc 0 0)) ++ (text "," ++ decimal (getD oc 1 0)) ++ (text "," ++ decimal (getD oc 2 0))
+levelsOf oc = (text " oc=" ++ number (getD oc 0 0)) ++ (text "," ++ number (getD oc 1 0)) ++ (text "," ++ number (getD oc 2 0))
 
 -- "`dir` 1 or -1"
 unfoldable pub countOf : Timer → List ℕ
-countOf t = (text "state count=" ++ decimal (t .counter .count)) ++ cond (negative (t .counter .direction)) (text " dir=-1") (text " dir=1")
+countOf t = (text "state count=" ++ number (t .counter .count)) ++ cond (negative (t .counter .direction)) (text " dir=-1") (text " dir=1")
 
 unfoldable pub countsOf : Timer → List ℕ
 countsOf t =
     countOf t
     ++ threeOf (text " ocr=") (t .config) (t .ocr)
     ++ threeOf (text " buf=") (t .config) (t .buffer)
-    ++ (text " icr=" ++ decimal (t .registers .icr))
+    ++ (text " icr=" ++ number (t .registers .icr))
     ++ (text " temp=" ++ pair (t .registers .temp))
 
 unfoldable pub outputsOf : Timer → List ℕ
@@ -85,18 +85,18 @@ haltsOf t =
 
 unfoldable pub clockOf : Timer → List ℕ
 clockOf t =
-    (text " sync=" ++ decimal (t .clock .sync .0))
-    ++ (text " origin=" ++ decimal (t .clock .origin .0))
+    (text " sync=" ++ number (t .clock .sync .0))
+    ++ (text " origin=" ++ number (t .clock .origin .0))
     ++ haltsOf t
-    ++ (text " latest=" ++ decimal (t .clock .latest .0))
+    ++ (text " latest=" ++ number (t .clock .latest .0))
 
 -- the line of `state`
 unfoldable pub stateOf : Timer → List ℕ
-stateOf t = countsOf t ++ outputsOf t ++ flagsOf t ++ clockOf t ++ (text " odometer=" ++ decimal (t .counter .odometer))
+stateOf t = countsOf t ++ outputsOf t ++ flagsOf t ++ clockOf t ++ (text " odometer=" ++ number (t .counter .odometer))
 
 -- "distance ticks=N flags=FF looked=K"
 unfoldable pub distanceLine : Distance → List ℕ
-distanceLine d = (text "distance ticks=" ++ decimal (d .ticks)) ++ (text " flags=" ++ pair (d .flags)) ++ (text " looked=" ++ decimal (d .looked))
+distanceLine d = (text "distance ticks=" ++ number (d .ticks)) ++ (text " flags=" ++ pair (d .flags)) ++ (text " looked=" ++ number (d .looked))
 
 -- the line of `distance`
 abbrev pub distanceText : Timer → List ℕ

@@ -4,7 +4,7 @@ use mathlib.Core.List.{List, _++_}
 use mathlib.Core.Path.{_≡_, refl}
 use borrow.Author.Tests.{eq-eqb, ne-eqb, lt-ltb, le-ltb}
 use lib.ListN.{length}
-use Rattle.figures.specs.Figures.{text, decimal}
+use Rattle.figures.specs.Figures.{text, number}
 use Rattle.words.specs.Words.{skipOf, findOf, placeOf}
 use Rattle.words.specs.Numbers.{between}
 use Rattle.page.specs.Page.{Puts, unreadableOf}
@@ -25,7 +25,7 @@ says d old new from at bytes v p = record { doors = refl; puts = p; valid = v }
 
 module _ (d : Doors) (old new : List ℕ) (from : ℕ) where
   -- a rule refused, or set
-  pub rule-refused : (x y : Set) (n at : ℕ) → x ≡ y → x ≡ set.Refused n → SetValid (d .set) → Puts old from new at (text "refused " ++ decimal n) → Leaves (ruledOf d y) old from new (record { doors = d; at = at })
+  pub rule-refused : (x y : Set) (n at : ℕ) → x ≡ y → x ≡ set.Refused n → SetValid (d .set) → Puts old from new at (text "refused " ++ number n) → Leaves (ruledOf d y) old from new (record { doors = d; at = at })
   unfolding ruledOf
   rule-refused x y n at e h v p = rw (← e, h) (says d old new from at _ v p)
 
@@ -34,7 +34,7 @@ module _ (d : Doors) (old new : List ℕ) (from : ℕ) where
   rule-set x y door r e h l = rw (← e, h) l
 
   -- an edge refused, or taken
-  pub edge-refused : (x y : Edged) (at : ℕ) → x ≡ y → (x .number ≡ 0 → ⊥) → SetValid (d .set) → Puts old from new at (text "refused " ++ decimal (x .number))
+  pub edge-refused : (x y : Edged) (at : ℕ) → x ≡ y → (x .number ≡ 0 → ⊥) → SetValid (d .set) → Puts old from new at (text "refused " ++ number (x .number))
       → Leaves (takenOf d y) old from new (record { doors = d; at = at })
   unfolding takenOf
   edge-refused x y at e h v p = rw (← e, ne-eqb (x .number) 0 h) (says d old new from at _ v p)

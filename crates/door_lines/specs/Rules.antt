@@ -5,7 +5,7 @@ use mathlib.Core.List.{List, _++_}
 use mathlib.Core.Path.{_≡_}
 use lib.Dec.{eqb, ltb}
 use lib.ListN.{length}
-use Rattle.figures.specs.Figures.{text, decimal}
+use Rattle.figures.specs.Figures.{text, number}
 use Rattle.words.specs.Words.{skipOf, findOf, placeOf}
 use Rattle.words.specs.Numbers.{between}
 use Rattle.page.specs.Page.{Puts, unreadableOf}
@@ -33,7 +33,7 @@ saying d bytes = record { doors = d; bytes = bytes }
 
 -- "ok due=N": "when the close is due"
 unfoldable pub dueLine : Due → List ℕ
-dueLine (due.At cycle) = text "ok due=" ++ decimal (cycle .0)
+dueLine (due.At cycle) = text "ok due=" ++ number (cycle .0)
 dueLine due.Nothing = text "ok due=none"
 
 -- a door that is kept, and when its close is due
@@ -42,7 +42,7 @@ keptOf door = record { doors = record { set = set.Made door }; bytes = dueLine (
 
 -- a rule set: "After a refused rule the door that was set stays"
 unfoldable pub ruledOf : Doors → Set → Lined
-ruledOf d (set.Refused n) = saying d (text "refused " ++ decimal n)
+ruledOf d (set.Refused n) = saying d (text "refused " ++ number n)
 ruledOf d (set.Made door) = keptOf door
 
 abbrev pub setOf : Doors → Rule → Lined
@@ -50,7 +50,7 @@ setOf d rule = ruledOf d (setTo rule)
 
 -- an edge on a door, or its refusal
 unfoldable pub takenOf : Doors → Edged → Lined
-takenOf d e = cond (eqb (e .number) 0) (keptOf (e .door)) (saying d (text "refused " ++ decimal (e .number)))
+takenOf d e = cond (eqb (e .number) 0) (keptOf (e .door)) (saying d (text "refused " ++ number (e .number)))
 
 abbrev pub edgedOf : Doors → Door → ℕ → Lined
 edgedOf d door cycle = takenOf d (edged door cycle)

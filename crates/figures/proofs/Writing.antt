@@ -10,7 +10,7 @@ use lib.Dec.{ltb}
 use lib.ListN.{length, take, drop, length-append}
 use borrow.Author.Tests.{lt-ltb, le-ltb}
 use Rattle.records.proofs.Records.{sets-append, sets-front, take-sets}
-use Rattle.figures.specs.Figures.{digits, decimal, Wrote}
+use Rattle.figures.specs.Figures.{digits, decimal, number, Wrote}
 
 -- bytes, then others right after them
 pub wrote-then : {a b c : List ℕ} {at p q : ℕ} {x y : List ℕ} → Wrote a b at p x → Wrote b c p q y → Wrote a c at q (x ++ y)
@@ -76,6 +76,39 @@ digits-length (suc j) k n h = go k h (digits-length j) (decLe 10 n)
 pub decimal-length : (k n : ℕ) → n < 10 ^ suc k → length (decimal n) ≤ suc k
 unfolding decimal
 decimal-length k n h = digits-length (suc n) k n h
+
+-- and as many as it may have are its own
+digits-decimal : (j k n : ℕ) → n < j → n < 10 ^ suc k → digits j n ≡ digits (suc k) n
+unfolding digits
+digits-decimal zero k n p q = absurd (not-suc-le-zero p)
+digits-decimal (suc j) k n p q = go k q (digits-decimal j) (decLe 10 n)
+  where
+    go : (k : ℕ) → n < 10 ^ suc k → ((k n : ℕ) → n < j → n < 10 ^ suc k → digits j n ≡ digits (suc k) n) → Dec (10 ≤ n)
+        → cond (ltb n 10) [] (digits j (n / 10)) ++ (48 + n % 10) ∷ [] ≡ cond (ltb n 10) [] (digits k (n / 10)) ++ (48 + n % 10) ∷ []
+    go k q rest (no h) = rw (lt-ltb n 10 (omega arith))
+    go zero q rest (yes h) = absurd (omega arith)
+    go (suc k) q rest (yes h) =
+        let a = pow-succ' 10 (suc k) in
+        rw (rest k (n / 10) (omega arith) (omega arith))
+
+-- a number of 64 bits is written whole
+pub number-decimal : (n : ℕ) → n < 2 ^ 64 → decimal n ≡ number n
+unfolding decimal number
+number-decimal n h = digits-decimal (suc n) 19 n (omega arith) (omega arith)
+
+digits-short : (k n : ℕ) → length (digits k n) ≤ k
+unfolding digits
+digits-short zero n = omega arith
+digits-short (suc k) n = go (digits-short k (n / 10)) (decLe 10 n)
+  where
+    go : length (digits k (n / 10)) ≤ k → Dec (10 ≤ n) → length (cond (ltb n 10) [] (digits k (n / 10)) ++ (48 + n % 10) ∷ []) ≤ suc k
+    go rest (no h) = rw (lt-ltb n 10 (omega arith)) (omega arith)
+    go rest (yes h) = rw (le-ltb n 10 h) (simp length-append (omega arith))
+
+-- in twenty digits at most
+pub number-short : (n : ℕ) → length (number n) ≤ 20
+unfolding number
+number-short n = digits-short 20 n
 
 pub length-around : (x y z : List ℕ) → length (x ++ y ++ z) ≡ length x + length y + length z
 length-around x y z = simp length-append (omega arith)

@@ -27,6 +27,10 @@ digits (suc k) n = cond (ltb n 10) [] (digits k (n / 10)) ++ (48 + n % 10) ∷ [
 unfoldable pub decimal : ℕ → List ℕ
 decimal n = digits (suc n) n
 
+-- a number of 64 bits in decimal: twenty digits at most
+unfoldable pub number : ℕ → List ℕ
+number n = digits 20 n
+
 -- bytes at a place of an area, and the place after them
 pub record Wrote (old new : List ℕ) (at r : ℕ) (bytes : List ℕ) : Type 0 where
   pub place : r ≡ at + length bytes

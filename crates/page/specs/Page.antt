@@ -6,7 +6,7 @@ use mathlib.Core.List.{List, [], _∷_, _++_, foldl}
 use lib.Dec.{eqb, ltb}
 use lib.ListN.{set}
 use Rattle.io.specs.Digits.{digits}
-use Rattle.figures.specs.Figures.{text, decimal}
+use Rattle.figures.specs.Figures.{text, number}
 
 -- ---- pages
 
@@ -64,4 +64,4 @@ reasonOf why =
 
 -- the line
 unfoldable pub unreadableOf : ℕ → ℕ → List ℕ
-unreadableOf nth why = text "error line " ++ decimal nth ++ reasonOf why
+unreadableOf nth why = text "error line " ++ number nth ++ reasonOf why

@@ -12,7 +12,7 @@ ghost use Prim.Native.Nat.{_<_};
 ghost use mathlib.Core.Path.{_≡_};
 ghost use mathlib.Core.List.{_∷_, [], _++_};
 ghost use Rattle.io.specs.Digits.{glyph as Digits·glyph};
-ghost use Rattle.figures.specs.Figures.{decimal};
+ghost use Rattle.figures.specs.Figures.{number};
 ghost use Rattle.page.specs.Page.{Puts, pair, pattern, flag, reasonOf, unreadableOf};
 
 // The bytes of a page.
@@ -46,7 +46,7 @@ pub fn text(page: &mut Page, from: usize, bytes: &[u8]) -> usize
 
 // Puts a label and a number's decimal digits; yields the place after them.
 pub fn number(page: &mut Page, from: usize, label: &[u8], n: u64) -> usize
-    ensures { λ r. ⌜ Puts (now (page .entry)) from (now (page .exit)) r (now (label .entry) ++ decimal n) ⌝ }
+    ensures { λ r. ⌜ Puts (now (page .entry)) from (now (page .exit)) r (now (label .entry) ++ number n) ⌝ }
 {
     let mut digits = [0u8; 20];
     let k = figures::number(&mut digits, 0, n);

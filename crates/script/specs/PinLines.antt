@@ -7,7 +7,7 @@ use lib.IntN.{pos}
 use lib.Ieee as Ieee
 use lib.Ieee.{fin, binary64, toBits}
 use lib.ListN.{getD, set, replicate}
-use Rattle.figures.specs.Figures.{text, decimal}
+use Rattle.figures.specs.Figures.{text, number}
 use Rattle.page.specs.Page.{pattern, flag, unreadableOf}
 use Rattle.pins.specs.declared.Drive.{Drive}
 use Rattle.pins.specs.declared.Drive.the-variants as drive
@@ -111,11 +111,11 @@ pinOf k =
 -- "ok level=1 volts=4008000000000000 changed=1 contention=0"
 unfoldable pub resolvedLine : Pin → Bool → Bool → List ℕ
 resolvedLine p changed opposed =
-    (text "ok level=" ++ decimal (p .level)) ++ (text " volts=" ++ pattern (toBits binary64 (p .volts))) ++ (text " changed=" ++ flag changed) ++ (text " contention=" ++ flag opposed)
+    (text "ok level=" ++ number (p .level)) ++ (text " volts=" ++ pattern (toBits binary64 (p .volts))) ++ (text " changed=" ++ flag changed) ++ (text " contention=" ++ flag opposed)
 
 -- "or refused 9, refused 10"
 unfoldable pub refusedLine : ℕ → List ℕ
-refusedLine n = text "refused " ++ decimal n
+refusedLine n = text "refused " ++ number n
 
 -- what the pin resolves to, and whether it is opposed
 unfoldable pub answerLine : Answer (Pin × Bool) → Answer Bool → List ℕ

@@ -8,7 +8,7 @@ use lib.Dec.{eqb, leb, ltb}
 use lib.ListN.{length}
 use Rattle.events.specs.Events.{earliest}
 use Rattle.events.specs.declared.Event.{Event}
-use Rattle.figures.specs.Figures.{text, decimal}
+use Rattle.figures.specs.Figures.{text, number}
 use Rattle.page.specs.Page.{Puts, unreadableOf}
 use Rattle.scheduler.specs.declared.Scheduler.{Scheduler}
 use Rattle.scheduler.specs.Scheduler.{holding, held, Valid, scheduled, removed, cycleOf, popped}
@@ -48,7 +48,7 @@ askedOf line at name =
 
 -- a label and a cycle; none where it is the largest
 unfoldable pub untilOf : List ℕ → ℕ → List ℕ
-untilOf label n = cond (ltb n (2 ^ 64 - 1)) (label ++ decimal n) (label ++ text "none")
+untilOf label n = cond (ltb n (2 ^ 64 - 1)) (label ++ number n) (label ++ text "none")
 
 -- "ok next=N"
 abbrev pub nextLine : Scheduler → List ℕ
@@ -56,13 +56,13 @@ nextLine s = untilOf (text "ok next=") (earliest (held s))
 
 -- "ok at=N", "ok at=none"
 unfoldable pub atLine : Option ℕ → List ℕ
-atLine (some cycle) = text "ok at=" ++ decimal cycle
+atLine (some cycle) = text "ok at=" ++ number cycle
 atLine none = text "ok at=none"
 
 -- "ok owner=O tag=T at=N next=M"
 unfoldable pub eventLine : Event → ℕ → List ℕ
 eventLine e next =
-    (text "ok owner=" ++ decimal (e .key .owner)) ++ (text " tag=" ++ decimal (e .key .tag)) ++ (text " at=" ++ decimal (e .cycle)) ++ untilOf (text " next=") next
+    (text "ok owner=" ++ number (e .key .owner)) ++ (text " tag=" ++ number (e .key .tag)) ++ (text " at=" ++ number (e .cycle)) ++ untilOf (text " next=") next
 
 -- "ok none where nothing is due"
 unfoldable pub popLine : Option Event → ℕ → List ℕ

@@ -11,7 +11,7 @@ use mir.Val.{Fits, SFits, toZ, ofZ}
 use mir.Facts.{toZ-ofZ, sfits-widen, fits-natAbs}
 use mathlib.Core.List.{_++_}
 use borrow.Author.Tests.{ltb-true}
-use Rattle.figures.specs.Figures.{text, decimal}
+use Rattle.figures.specs.Figures.{text, number}
 use Rattle.shift.specs.declared.Moved.{Moved}
 use Rattle.shift.specs.declared.Moved.the-variants as moved
 use Rattle.timer_lines.specs.Shown.{movedOf}
@@ -75,11 +75,11 @@ module _ (z : ℤ) (f : SFits w32 z) where
 -- ---- a shift's line
 
 -- backwards
-pub moved-back : (m : Moved) (by z : ℤ) (n : ℕ) → m ≡ moved.By by → z ≡ by → ltZ z (pos 0) ≡ true → n ≡ natAbs z → movedOf m ≡ text "ok shift=-" ++ decimal n
+pub moved-back : (m : Moved) (by z : ℤ) (n : ℕ) → m ≡ moved.By by → z ≡ by → ltZ z (pos 0) ≡ true → n ≡ natAbs z → movedOf m ≡ text "ok shift=-" ++ number n
 unfolding movedOf
 moved-back m by z n em ez h en = rw (em, ← ez, h, en)
 
 -- or on
-pub moved-on : (m : Moved) (by z : ℤ) (n : ℕ) → m ≡ moved.By by → z ≡ by → ltZ z (pos 0) ≡ false → n ≡ natAbs z → movedOf m ≡ text "ok shift=" ++ decimal n
+pub moved-on : (m : Moved) (by z : ℤ) (n : ℕ) → m ≡ moved.By by → z ≡ by → ltZ z (pos 0) ≡ false → n ≡ natAbs z → movedOf m ≡ text "ok shift=" ++ number n
 unfolding movedOf
 moved-on m by z n em ez h en = rw (em, ← ez, h, en)

@@ -5,7 +5,7 @@ use mathlib.Core.List.{List, _++_}
 use mathlib.Core.Path.{_≡_}
 use lib.Dec.{eqb, ltb}
 use lib.ListN.{length, drop}
-use Rattle.figures.specs.Figures.{text, decimal}
+use Rattle.figures.specs.Figures.{text, number}
 use Rattle.room.specs.Room.{filled, changedAt}
 use Rattle.page.specs.Page.{Puts, unreadableOf}
 use Rattle.passage.specs.Passage.{ticks}
@@ -32,7 +32,7 @@ saying s area bytes = record { socket = s; bytes = bytes; area = area; written =
 
 -- "`area changed at I` in place of the answer" where the rest of the area does not hold A5
 unfoldable pub toldOf : Outcome → List ℕ → List ℕ
-toldOf o area = cond (ltb (changedAt area (o .written)) (length area)) (text "area changed at " ++ decimal (changedAt area (o .written))) (shownOf o area)
+toldOf o area = cond (ltb (changedAt area (o .written)) (length area)) (text "area changed at " ++ number (changedAt area (o .written))) (shownOf o area)
 
 -- the outcome of a call as it is told
 abbrev pub outcomeOf : Told → Outcome

@@ -5,7 +5,7 @@ use mathlib.Core.List.{List, _++_}
 use lib.Dec.{eqb}
 use lib.IntN.{pos, natAbs}
 use lib.Signed.{ltZ}
-use Rattle.figures.specs.Figures.{text, decimal}
+use Rattle.figures.specs.Figures.{text, number}
 use Rattle.words.specs.Words.{exactlyOf}
 use Rattle.words.specs.Numbers.{nextOf}
 use Rattle.words.specs.declared.Taken.{Taken}
@@ -26,8 +26,8 @@ stateLine s nth line at far = unlessNone s nth (exactlyOf line at 0 .why) (cond 
 
 -- "ok shift=S": decimal, with `-` before it where the second comes first; or the refusal
 unfoldable pub movedOf : Moved → List ℕ
-movedOf (moved.Refused n) = text "refused " ++ decimal n
-movedOf (moved.By by) = cond (ltZ by (pos 0)) (text "ok shift=-" ++ decimal (natAbs by)) (text "ok shift=" ++ decimal (natAbs by))
+movedOf (moved.Refused n) = text "refused " ++ number n
+movedOf (moved.By by) = cond (ltZ by (pos 0)) (text "ok shift=-" ++ number (natAbs by)) (text "ok shift=" ++ number (natAbs by))
 
 -- "shift FIRST SECOND"
 abbrev pub shiftedOf : Socket → ℕ → Taken → Taken → List ℕ

@@ -1,6 +1,6 @@
 -- `page::number` meets its contract: the digits are put from a line of their own.
 use Rattle.page.proofs.Sheets.{then, number-length}
-use Rattle.figures.proofs.Writing.{wrote-read}
+use Rattle.figures.proofs.Writing.{wrote-read, number-decimal}
 use lib.ListN.{length-take}
 use native.Mathlib.Omega.{arith}
 use borrow.Author.Needs.{needs}
@@ -19,8 +19,9 @@ slice-aggregate-text c = simp length-take (omega (arith, c .before .before .befo
 returns : tie.Need-returns
 returns c =
     let number = c .before .before .before .before .before .before .number in
-    let r = wrote-read (number .ensures) (omega (arith, number-length (c .before .before .before .before .before .before .before .before .before .args .n) (search needs))) in
-    rw (← r) (then (c .before .before .before .text .ensures) (c .text2 .ensures))
+    let start = c .before .before .before .before .before .before .before .before .before in
+    let r = wrote-read (number .ensures) (omega (arith, number-length (start .args .n) (search needs))) in
+    rw (← number-decimal (start .args .n) (search needs), ← r) (then (c .before .before .before .text .ensures) (c .text2 .ensures))
 
 pub number-spec : {M : Type 1} → statement M
 number-spec =
