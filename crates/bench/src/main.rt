@@ -74,22 +74,30 @@ fn settled(
     ensures { λ r. ⌜ Sound (r .bench) ⌝ }
 {
     let file = filed(fd, after.anew, after.kept, after.whose, room, one, two);
-    let at = if file.why == FINE {
-        to
-    } else {
-        failed(page, from, after.line, file.why)
-    };
-    let counts = file.why != NOT_OPENED;
-    let mut bench = before;
-    if counts {
-        bench = after;
+    if file.why == FINE {
+        return Outcome {
+            bench: after,
+            at: to,
+            fd: file.fd,
+            counts: true,
+        };
     }
-    bench.line = after.line;
+    let at = failed(page, from, after.line, file.why);
+    if file.why == NOT_OPENED {
+        let mut bench = before;
+        bench.line = after.line;
+        return Outcome {
+            bench,
+            at,
+            fd: file.fd,
+            counts: false,
+        };
+    }
     Outcome {
-        bench,
+        bench: after,
         at,
         fd: file.fd,
-        counts,
+        counts: true,
     }
 }
 

@@ -1,5 +1,5 @@
 -- What is proved of the board's lines beside the functions.
-use Prim.Native.Nat.{ℕ, _≤_}
+use Prim.Native.Nat.{ℕ, _+_, _*_, _≤_}
 use mathlib.Core.List.{List}
 use lib.ListN.{length}
 use Rattle.board.specs.Calls.{Areas}
@@ -12,6 +12,6 @@ use Rattle.board_lines.specs.Ordered.{orderLine}
 abbrev pub Sized : Type 0
 Sized = (line : List ℕ) (at : ℕ) → askedOf line at .size ≤ 4096
 
--- Short: an order's answer has at most so many bytes, of which three times 8,192 show records
+-- Short: an order's answer has at most so many bytes: three areas in hexadecimal, and 200 more
 abbrev pub Short : Type 0
-Short = (b : Boarded) (q : Asked) (areas : Areas) → q .size ≤ 4096 → length (orderLine b q areas .bytes) ≤ 27000
+Short = (b : Boarded) (q : Asked) (areas : Areas) → q .size ≤ 4096 → length (orderLine b q areas .bytes) ≤ 200 + 6 * 4096

@@ -43,25 +43,25 @@ spoilt area written = ltb (changedAt area written) (length area)
 unfoldable pub spoiltOf : Areas → Written → Bool
 spoiltOf areas w = spoilt (areas .zero) (w .zero) || spoilt (areas .one) (w .one) || spoilt (areas .two) (w .two)
 
--- the outcome of an order as it is told
+-- the board that an order leaves, and an answer with so many records
+abbrev pub leaving : Bool → Outcome → Areas → Written → List ℕ → Lined
+leaving ready o areas written bytes = record { boarded = record { ready = ready; board = o .board }; bytes = bytes; areas = areas; written = written; fresh = false }
+
+-- "If an area does not hold `A5` behind what was written the program says `area changed`"
+unfoldable pub toldOf : Bool → Outcome → Areas → Lined
+toldOf ready o areas = cond (spoiltOf areas (o .written)) (leaving ready o areas nothing (text "area changed")) (leaving ready o areas (o .written) (shownOf o areas))
+
+-- the outcome of an order as the board tells it
 abbrev pub outcomeOf : Told → Outcome
 outcomeOf x = record { answer = answerOf (x .number) (x .values); board = x .board; written = x .written }
 
--- the board that an order leaves, its areas, and an answer with so many records
-abbrev pub leaving : Boarded → Told → Written → List ℕ → Lined
-leaving b x written bytes = record { boarded = record { ready = b .ready; board = x .board }; bytes = bytes; areas = x .areas; written = written; fresh = false }
-
--- "If an area does not hold `A5` behind what was written the program says `area changed`"
-unfoldable pub toldOf : Boarded → Told → Lined
-toldOf b x = cond (spoiltOf (x .areas) (x .written)) (leaving b x nothing (text "area changed")) (leaving b x (x .written) (shownOf (outcomeOf x) (x .areas)))
-
--- the order on three areas, filled
+-- the order on three areas
 abbrev pub calledOf : Boarded → Asked → Areas → Lined
-calledOf b q areas = toldOf b (told ticks (b .board) (q .order) (q .cycle) areas)
+calledOf b q areas = let x = told ticks (b .board) (q .order) (q .cycle) areas in toldOf (b .ready) (outcomeOf x) (x .areas)
 
 -- three filled areas
 abbrev pub filledTo : ℕ → ℕ → ℕ → Areas
-filledTo zero one two = areasOf (filled zero) (filled one) (filled two)
+filledTo a b c = areasOf (filled a) (filled b) (filled c)
 
 -- a line's answer with what lies behind the first bytes of each area, which its order had
 abbrev pub behind : Lined → ℕ → Areas → Lined

@@ -2,7 +2,7 @@
 use Prim.Native.Nat.{ℕ}
 use mathlib.Core.List.{List, [], _∷_, _++_}
 use mathlib.Core.Option.{Option, none, some}
-use Rattle.figures.specs.Figures.{text, decimal}
+use Rattle.figures.specs.Figures.{text, number}
 use Rattle.page.specs.Page.{pair}
 use Rattle.counter.specs.Next.{nextOf}
 use Rattle.scheduler.specs.Scheduler.{held, cycleOf as cycleIn}
@@ -26,7 +26,7 @@ nextsOf b =
 -- "bytes=B,B,B records=HEX,HEX,HEX"
 unfoldable pub recordsOf : Written → Areas → List ℕ
 recordsOf w areas =
-    (text " bytes=" ++ decimal (w .zero)) ++ (text "," ++ decimal (w .one)) ++ (text "," ++ decimal (w .two))
+    (text " bytes=" ++ number (w .zero)) ++ (text "," ++ number (w .one)) ++ (text "," ++ number (w .two))
     ++ bytesOf (text " records=") (areas .zero) (w .zero) ++ bytesOf (text ",") (areas .one) (w .one) ++ bytesOf (text ",") (areas .two) (w .two)
 
 -- the line of an order: nothing follows a refusal
@@ -35,7 +35,7 @@ answerOf o areas = saidOf (o .answer) ++ unlessRefused (o .answer) (nextsOf (o .
 
 -- a label and a cycle, or none
 unfoldable pub heldAt : List ℕ → Option ℕ → List ℕ
-heldAt label (some cycle) = label ++ decimal cycle
+heldAt label (some cycle) = label ++ number cycle
 heldAt label none = label ++ text "none"
 
 -- "the cycle that the board's scheduler holds for each id, or none"

@@ -69,6 +69,7 @@ fn second(line: &[u8], c: Cursor, name: usize) -> Taken
     ensures { λ r. ⌜ r ≡ secondOf (now (line .entry)) c name ⌝ }
 {
     match name {
+        0..=2 => none(c),
         3..=5 => decimal(line, c, 0xff),
         8 => hexadecimal(line, c, 0xff),
         _ => none(c),

@@ -6,6 +6,7 @@ use crate::asked::STATE;
 use crate::shown::answer;
 use crate::shown::stands;
 use board::call;
+use board::outcome::Outcome;
 use board::outcome::Written;
 use board::state::Board;
 use page::Page;
@@ -18,7 +19,7 @@ ghost use mathlib.Core.Path.{_≡_};
 ghost use lib.ListN.{length};
 ghost use Rattle.board.specs.Calls.{areasOf, nothing};
 ghost use Rattle.board.specs.State.{Valid};
-ghost use Rattle.board_lines.specs.Ordered.{spoilt, spoiltOf, filledTo, calledOf, orderLine, Leaves};
+ghost use Rattle.board_lines.specs.Ordered.{spoilt, spoiltOf, toldOf, filledTo, calledOf, orderLine, Leaves};
 
 // The board counts once there is a new one.
 pub struct Boarded {
@@ -60,7 +61,34 @@ fn any_spoilt(w: Written, zero: &[u8], one: &[u8], two: &[u8]) -> bool
     spoilt(zero, w.zero) | spoilt(one, w.one) | spoilt(two, w.two)
 }
 
-// Orders the board on three areas, filled, and puts the answer, or that an area changed beyond what was written.
+// Puts an order's answer, or that an area changed beyond what was written.
+fn told(
+    ready: bool,
+    o: Outcome,
+    page: &mut Page,
+    from: usize,
+    zero: &[u8],
+    one: &[u8],
+    two: &[u8],
+) -> Left
+    requires { ⌜ Valid (o .board) ⌝ }
+    ensures { λ r. ⌜ Leaves (toldOf ready o (areasOf (now (zero .entry)) (now (one .entry)) (now (two .entry)))) (now (page .entry)) from (now (page .exit)) (now (zero .entry)) (now (one .entry)) (now (two .entry)) r ⌝ }
+{
+    let board = o.board;
+    let boarded = Boarded { ready, board };
+    let written = o.written;
+    if any_spoilt(written, zero, one, two) {
+        return quiet(boarded, text(page, from, b"area changed"), false);
+    }
+    Left {
+        boarded,
+        at: answer(page, from, o, zero, one, two),
+        written,
+        fresh: false,
+    }
+}
+
+// Orders the board on three areas, filled, and puts the answer.
 fn called(
     b: Boarded,
     asked: Asked,
@@ -78,20 +106,7 @@ fn called(
     fill(two);
     let order = asked.order;
     let o = call(b.board, order, Cycle(asked.cycle), zero, one, two);
-    let board = o.board;
-    let boarded = Boarded {
-        ready: b.ready,
-        board,
-    };
-    if any_spoilt(o.written, zero, one, two) {
-        return quiet(boarded, text(page, from, b"area changed"), false);
-    }
-    Left {
-        boarded,
-        at: answer(page, from, o, zero, one, two),
-        written: o.written,
-        fresh: false,
-    }
+    told(b.ready, o, page, from, zero, one, two)
 }
 
 // Works what a line asks of the board, on areas of which an order has as many bytes as it asks for.
@@ -114,20 +129,20 @@ pub fn order_line(
         };
         return quiet(fresh, text(page, from, b"ok config"), true);
     }
-    if !b.ready {
-        return quiet(b, text(page, from, b"no timer"), false);
+    if b.ready {
+        if asked.name == STATE {
+            return quiet(b, stands(page, from, b.board), false);
+        }
+        let size = asked.size;
+        return called(
+            b,
+            asked,
+            page,
+            from,
+            &mut zero[0..size],
+            &mut one[0..size],
+            &mut two[0..size],
+        );
     }
-    if asked.name == STATE {
-        return quiet(b, stands(page, from, b.board), false);
-    }
-    let size = asked.size;
-    called(
-        b,
-        asked,
-        page,
-        from,
-        &mut zero[0..size],
-        &mut one[0..size],
-        &mut two[0..size],
-    )
+    quiet(b, text(page, from, b"no timer"), false)
 }

@@ -5,7 +5,7 @@ use mathlib.Core.List.{List, _++_}
 use mathlib.Core.Path.{_≡_}
 use lib.Dec.{eqb, ltb}
 use lib.Seq.{sets}
-use Rattle.figures.specs.Figures.{text, decimal}
+use Rattle.figures.specs.Figures.{text, number}
 use Rattle.words.specs.Words.{exactlyOf}
 use Rattle.words.specs.Numbers.{nextOf}
 use Rattle.words.specs.declared.Taken.{Taken}
@@ -30,7 +30,7 @@ itemOf address value cycle = bytesOf 10 (address * 2 ^ 70 + value * 2 ^ 62 + cyc
 -- "ok items=K: how many the list holds"; "the 401st item an extra word", 5
 unfoldable pub addedOf : ℕ → ℕ → List ℕ → List ℕ → Added
 addedOf n nth list item =
-    cond (ltb n 400) (saying (n + 1) (sets list (10 * n) item) (text "ok items=" ++ decimal (n + 1))) (saying n list (unreadableOf nth 5))
+    cond (ltb n 400) (saying (n + 1) (sets list (10 * n) item) (text "ok items=" ++ number (n + 1))) (saying n list (unreadableOf nth 5))
 
 -- an item whose words were read
 unfoldable pub itemRead : ℕ → ℕ → List ℕ → Taken → Taken → Taken → Added

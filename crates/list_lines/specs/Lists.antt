@@ -5,7 +5,7 @@ use mathlib.Core.List.{List, _++_}
 use mathlib.Core.Path.{_≡_}
 use lib.Dec.{eqb, ltb}
 use lib.ListN.{length, take, drop}
-use Rattle.figures.specs.Figures.{text, decimal}
+use Rattle.figures.specs.Figures.{text, number}
 use Rattle.words.specs.Words.{exactlyOf}
 use Rattle.words.specs.Numbers.{nextOf}
 use Rattle.words.specs.declared.Taken.{Taken}
@@ -37,8 +37,8 @@ saying s n area bytes = record { socket = s; items = n; area = area; written = 0
 -- "why=all", "why=paused cycle=N", "why=refused number=N"
 unfoldable pub reasonOf : Why → List ℕ
 reasonOf why.AllDone = text " why=all"
-reasonOf (why.Paused cycle f) = text " why=paused cycle=" ++ decimal (cycle .0)
-reasonOf (why.Refused n) = text " why=refused number=" ++ decimal n
+reasonOf (why.Paused cycle f) = text " why=paused cycle=" ++ number (cycle .0)
+reasonOf (why.Refused n) = text " why=refused number=" ++ number n
 
 -- was the whole list turned away: "HEX is not of ten bytes an item; nothing has changed"
 unfoldable pub turnedAway : Why → Bool
@@ -48,7 +48,7 @@ turnedAway (why.Refused n) = eqb n 12
 
 -- "refused 12", or "ok done=K why=.. bytes=B records=HEX"
 unfoldable pub endedOf : ℕ → Why → List ℕ → ℕ → List ℕ
-endedOf done w area written = cond (turnedAway w) (text "refused 12") (text "ok done=" ++ decimal done ++ reasonOf w ++ recordsOf area written)
+endedOf done w area written = cond (turnedAway w) (text "refused 12") (text "ok done=" ++ number done ++ reasonOf w ++ recordsOf area written)
 
 -- why a list ended, as `writes` tells it
 abbrev pub reasonIn : Listed → Why
@@ -63,7 +63,7 @@ leaving s n x written bytes =
 unfoldable pub toldOf : Socket → ℕ → Listed → Lined
 toldOf s n x =
     let end = changedAt (x .told .area) (x .told .written) in
-    cond (ltb end (length (x .told .area))) (leaving s n x 0 (text "area changed at " ++ decimal end))
+    cond (ltb end (length (x .told .area))) (leaving s n x 0 (text "area changed at " ++ number end))
     (leaving s n x (x .told .written) (endedOf (x .done) (reasonIn x) (x .told .area) (x .told .written)))
 
 -- a list worked on an area of so many bytes, by `writes`' own definition

@@ -5,7 +5,7 @@ use mathlib.Core.List.{List, [], _++_}
 use mathlib.Core.Path.{_≡_}
 use lib.Dec.{eqb, ltb}
 use lib.ListN.{length}
-use Rattle.figures.specs.Figures.{text, decimal}
+use Rattle.figures.specs.Figures.{text, number}
 use Rattle.words.specs.Words.{skipOf, findOf, placeOf, exactlyOf}
 use Rattle.words.specs.Numbers.{between, nextOf}
 use Rattle.words.specs.declared.Cursor.{Cursor}
@@ -30,11 +30,11 @@ saying ring area bytes = record { ring = ring; area = area; bytes = bytes }
 
 -- "ok held=N", or the refusal's number
 unfoldable pub heldOf : ℕ → Ring → List ℕ
-heldOf number ring = cond (eqb number 0) (text "ok held=" ++ decimal (ring .held)) (text "refused " ++ decimal number)
+heldOf n ring = cond (eqb n 0) (text "ok held=" ++ number (ring .held)) (text "refused " ++ number n)
 
 -- "after add: how many are held, and the place that the record took"
 unfoldable pub placedBy : Ring → ℕ × Ring × List ℕ → Lined
-placedBy ring x = saying (x .1) (x .2) (heldOf (x .0) (x .1) ++ cond (eqb (x .0) 0) (text " place=" ++ decimal (ring .next)) [])
+placedBy ring x = saying (x .1) (x .2) (heldOf (x .0) (x .1) ++ cond (eqb (x .0) 0) (text " place=" ++ number (ring .next)) [])
 
 abbrev pub addedOf : Ring → List ℕ → List ℕ → Lined
 addedOf ring area bytes = placedBy ring (added ring area bytes)

@@ -50,15 +50,13 @@ fn add(ring: Ring, page: &mut Page, from: usize, bytes: [u8; 10], area: &mut Are
     ensures { λ r. ⌜ Leaves (addedOf ring (now (area .entry)) bytes) (now (page .entry)) from (now (page .exit)) (now (area .exit)) r ⌝ }
 {
     let answer = ring.add(area, bytes);
+    let after = answer.ring;
     let at = held(page, from, answer);
     if answer.number != 0 {
-        return Left {
-            ring: answer.ring,
-            at,
-        };
+        return Left { ring: after, at };
     }
     Left {
-        ring: answer.ring,
+        ring: after,
         at: number(page, at, b" place=", ring.next as u64),
     }
 }
@@ -115,8 +113,9 @@ fn release_line(
         };
     }
     let answer = ring.release(area, count.value as usize);
+    let after = answer.ring;
     Left {
-        ring: answer.ring,
+        ring: after,
         at: held(page, from, answer),
     }
 }

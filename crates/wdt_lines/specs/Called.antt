@@ -5,7 +5,7 @@ use mathlib.Core.List.{List, _++_}
 use mathlib.Core.Path.{_≡_}
 use lib.Dec.{eqb, ltb}
 use lib.ListN.{length, drop}
-use Rattle.figures.specs.Figures.{text, decimal}
+use Rattle.figures.specs.Figures.{text, number}
 use Rattle.words.specs.Words.{skipOf, findOf, placeOf}
 use Rattle.words.specs.Numbers.{between}
 use Rattle.page.specs.Page.{Puts, unreadableOf}
@@ -36,7 +36,7 @@ newOf area = saying (record { ready = true; watchdog = fresh }) area (text "ok c
 
 -- "`area changed at I` in place of the answer" where the rest of the area does not hold A5
 unfoldable pub toldOf : Told → List ℕ
-toldOf x = cond (ltb (changedAt (x .area) (x .written)) (length (x .area))) (text "area changed at " ++ decimal (changedAt (x .area) (x .written))) (answerOf x)
+toldOf x = cond (ltb (changedAt (x .area) (x .written)) (length (x .area))) (text "area changed at " ++ number (changedAt (x .area) (x .written))) (answerOf x)
 
 -- the watchdog that a call leaves, and its answer
 abbrev pub leftBy : Watched → Told → Lined

@@ -1,7 +1,7 @@
 -- What is shown of a watchdog (docs/SCRIPT.md, "The watchdog"): a call's answer, and the watchdog as it stands.
 use Prim.Native.Nat.{ℕ}
 use mathlib.Core.List.{List, [], _++_}
-use Rattle.figures.specs.Figures.{text, decimal}
+use Rattle.figures.specs.Figures.{text, number}
 use Rattle.page.specs.Page.{pair, flag}
 use Rattle.display.specs.Answers.{recordsOf}
 use Rattle.wdtcsr.specs.Wdtcsr.{isOpen}
@@ -13,7 +13,7 @@ use Rattle.watchdog.specs.Outcome.{Told, Values, refused, none, byte, event, pa
 
 -- "next=N": "the next time-out, or none"
 unfoldable pub eventOf : Next → List ℕ
-eventOf (next.At cycle) = text " next=" ++ decimal (cycle .0)
+eventOf (next.At cycle) = text " next=" ++ number (cycle .0)
 eventOf next.Never = text " next=none"
 
 -- what a call leaves: its watchdog's next event, and the bytes written
@@ -22,11 +22,11 @@ leftBy x = eventOf (nextOf (x .watchdog)) ++ recordsOf (x .area) (x .written)
 
 -- "refused N", "ok value=VV", "paused cycle=N"
 unfoldable pub saidOf : ℕ → Values → List ℕ
-saidOf n refused = text "refused " ++ decimal n
+saidOf n refused = text "refused " ++ number n
 saidOf n none = text "ok value=-"
 saidOf n (byte value) = text "ok value=" ++ pair value
 saidOf n (event e) = text "ok value=-"
-saidOf n (paused cycle) = text "paused cycle=" ++ decimal cycle
+saidOf n (paused cycle) = text "paused cycle=" ++ number cycle
 
 -- what follows it: nothing after a refusal
 unfoldable pub unlessRefused : Values → List ℕ → List ℕ
@@ -47,8 +47,8 @@ bitsOf w =
     ++ (text " wdie=" ++ flag (w .moving .control .wdie))
     ++ (text " wdce=" ++ flag (isOpen (w .moving .window) (w .latest .0)))
     ++ (text " wde=" ++ flag (w .moving .control .wde))
-    ++ (text " p=" ++ decimal (w .moving .control .wdp))
+    ++ (text " p=" ++ number (w .moving .control .wdp))
 
 -- the line of `wdt state`
 unfoldable pub stateOf : Watchdog → List ℕ
-stateOf w = (text "wdt count=" ++ decimal (w .moving .count)) ++ bitsOf w ++ (text " sync=" ++ decimal (w .sync .0)) ++ (text " latest=" ++ decimal (w .latest .0))
+stateOf w = (text "wdt count=" ++ number (w .moving .count)) ++ bitsOf w ++ (text " sync=" ++ number (w .sync .0)) ++ (text " latest=" ++ number (w .latest .0))
