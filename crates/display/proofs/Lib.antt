@@ -1,2 +1,3 @@
 pub mod Hexes
 pub mod Tellings
+pub mod Claims
