@@ -12,26 +12,26 @@ use Rattle.figures.specs.Figures.{codes, number}
 use Rattle.figures.proofs.Writing.{number-short}
 use Rattle.page.specs.Page.{pair, pattern, flag, reasonOf, unreadableOf}
 
-pub codes-long : (s : String) (n : ℕ) → length (codes s n) ≡ n
+pub codes-length : (s : String) (n : ℕ) → length (codes s n) ≡ n
 unfolding codes
-codes-long s zero = refl
-codes-long s (suc n) = simp (length-append, codes-long s n) (omega arith)
+codes-length s zero = refl
+codes-length s (suc n) = simp (length-append, codes-length s n) (omega arith)
 
-digits-long : (base k n : ℕ) → length (digits base k n) ≡ k
-digits-long base zero n = refl
-digits-long base (suc k) n = simp (length-append, digits-long base k) (omega arith)
+digits-length : (base k n : ℕ) → length (digits base k n) ≡ k
+digits-length base zero n = refl
+digits-length base (suc k) n = simp (length-append, digits-length base k) (omega arith)
 
-pub pair-long : (b : ℕ) → length (pair b) ≡ 2
+pub pair-length : (b : ℕ) → length (pair b) ≡ 2
 unfolding pair
-pair-long b = digits-long 16 2 b
+pair-length b = digits-length 16 2 b
 
-pub pattern-long : (n : ℕ) → length (pattern n) ≡ 16
+pub pattern-length : (n : ℕ) → length (pattern n) ≡ 16
 unfolding pattern
-pattern-long n = digits-long 16 16 n
+pattern-length n = digits-length 16 16 n
 
-pub flag-long : (b : Bool) → length (flag b) ≡ 1
+pub flag-length : (b : Bool) → length (flag b) ≡ 1
 unfolding flag
-flag-long b = refl
+flag-length b = refl
 
 -- ---- answers
 
@@ -41,11 +41,11 @@ Upto most bytes = length bytes ≤ most
 
 -- a text
 pub said : (s : String) {k most : ℕ} → k ≤ most → Upto most (codes s k)
-said s {k} h = rw (codes-long s k) h
+said s {k} h = rw (codes-length s k) h
 
 -- a text and a number
 pub numbered : (s : String) (k n : ℕ) {most : ℕ} → k + 20 ≤ most → Upto most (codes s k ++ number n)
-numbered s k n h = let l = number-short n in simp (length-append, codes-long) (omega arith)
+numbered s k n h = let l = number-short n in simp (length-append, codes-length) (omega arith)
 
 -- either side of a choice
 pub either : {A : Type 0} (Q : A → Type 0) (b : Bool) {x y : A} → Q x → Q y → Q (cond b x y)
@@ -69,4 +69,4 @@ unfolding unreadableOf
 unreadable-short nth why =
     let h = number-short nth in
     let k = reason-short why in
-    simp (length-append, codes-long) (omega arith)
+    simp (length-append, codes-length) (omega arith)
