@@ -1,0 +1,4 @@
+pub mod Asked
+pub mod Shown
+pub mod Ordered
+pub mod Claims
