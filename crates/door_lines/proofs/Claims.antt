@@ -1,7 +1,6 @@
 -- How long the answer of a door's line may be.
 use Prim.Native.Nat.{ℕ, _≤_}
 use native.Mathlib.Omega.{arith}
-use mathlib.Core.List.{List}
 use lib.Dec.{eqb, ltb}
 use lib.ListN.{length}
 use Rattle.figures.specs.Figures.{text}
@@ -9,7 +8,6 @@ use Rattle.words.specs.Words.{skipOf, findOf, placeOf}
 use Rattle.words.specs.Numbers.{between}
 use Rattle.page.proofs.Lengths.{said, numbered, either, unreadable-short}
 use Rattle.door.specs.Door.{setTo, edged, closeOf}
-use Rattle.door.specs.declared.Door.{Door}
 use Rattle.door.specs.declared.Edged.{Edged}
 use Rattle.door.specs.declared.Set.{Set}
 use Rattle.door.specs.declared.Set.the-variants as set
@@ -18,7 +16,7 @@ use Rattle.door.specs.declared.Due.the-variants as due
 use Rattle.door_lines.specs.declared.asked.Asked.{Asked}
 use Rattle.door_lines.specs.declared.rules.Doors.{Doors}
 use Rattle.door_lines.specs.Asked.{askedOf, ruleOf}
-use Rattle.door_lines.specs.Rules.{Lined, dueLine, keptOf, ruledOf, takenOf, edgeOn, heardOf, doorLine}
+use Rattle.door_lines.specs.Rules.{Lined, dueLine, ruledOf, takenOf, edgeOn, heardOf, doorLine}
 use Rattle.door_lines.specs.Claims.{Short}
 
 abbrev Brief : Lined → Type 0

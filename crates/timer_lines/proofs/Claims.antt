@@ -14,7 +14,6 @@ use Rattle.page.proofs.Lengths.{Upto, said, numbered, either, unreadable-short}
 use Rattle.room.specs.Room.{filled, changedAt}
 use Rattle.counter.specs.Fresh.{startedOf}
 use Rattle.answers.specs.declared.Outcome.{Outcome}
-use Rattle.display.specs.States.{stateOf, distanceText}
 use Rattle.display.proofs.Claims.{short-answer, short-state, short-distance}
 use Rattle.script.specs.declared.configs.Given.{Given}
 use Rattle.script.specs.Configs.{ofKeys, ofPreset}
