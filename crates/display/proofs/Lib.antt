@@ -1,2 +1,4 @@
 pub mod Hexes
 pub mod Tellings
+pub mod Lengths
+pub mod Claims

@@ -10,7 +10,8 @@ use borrow.Author.Tests.{lt-ltb, le-ltb}
 use lib.ListN.{length, take, set, length-set}
 use lib.Seq.{take-suc-set, append-snoc}
 use Rattle.page.specs.Page.{Sheet, sheet, size, put, puts}
-use Rattle.page.specs.Claims.{Fits, NothingLost, RoomSeen}
+use Rattle.page.specs.Claims.{Fits, NothingLost, RoomSeen, Short}
+use Rattle.page.proofs.Lengths.{unreadable-short}
 
 -- a byte that has room
 here : (page : List ℕ) (at b : ℕ) → at < size → put (sheet page at) b ≡ sheet (set page at b) (suc at)
@@ -56,3 +57,6 @@ seen page bs at b ih h = go (decLe size at)
 pub room-seen : RoomSeen
 room-seen page [] at h = omega arith
 room-seen page (b ∷ bs) at h = seen page bs at b (room-seen (set page at b) bs (suc at)) h
+
+pub short : Short
+short = unreadable-short

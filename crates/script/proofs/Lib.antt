@@ -4,3 +4,4 @@ pub mod Naming
 pub mod Asking
 pub mod Pinning
 pub mod Readings
+pub mod Claims

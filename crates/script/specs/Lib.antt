@@ -5,3 +5,4 @@ pub mod Configs
 pub mod Sched
 pub mod PinLines
 pub mod Readings
+pub mod Claims

@@ -3,3 +3,5 @@ pub mod Asking
 pub mod Telling
 pub mod Showing
 pub mod Making
+pub mod Lengths
+pub mod Claims

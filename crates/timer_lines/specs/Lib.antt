@@ -3,3 +3,4 @@ pub mod Called
 pub mod Made
 pub mod Shown
 pub mod Named
+pub mod Claims

@@ -10,10 +10,8 @@ use lib.ListN.{length, length-append, length-drop}
 use Rattle.figures.specs.Figures.{codes}
 use Rattle.figures.proofs.Writing.{number-short}
 use Rattle.tick.proofs.Choices.{cond-all}
-use Rattle.words.specs.Numbers.{nextOf}
-use Rattle.words.specs.declared.Cursor.{Cursor}
 use Rattle.words.specs.declared.Taken.{Taken}
-use Rattle.words.proofs.Numerals.{numeral-most}
+use Rattle.words.proofs.Numerals.{next-most}
 use Rattle.page.proofs.Lengths.{pair-length, flag-length}
 use Rattle.display.proofs.Lengths.{records-short}
 use Rattle.room.specs.Room.{changedAt}
@@ -58,10 +56,6 @@ unfolding answered
 answered-area w c cycle area = cond-all (λ (x : Told). length (x .area) ≡ length area) (eqb (refusalOf w c cycle) 0) (performed-area w c cycle area) refl
 
 -- and a line asks for 4,096 at most
-next-most : (line : List ℕ) (c : Cursor) (radix most : ℕ) → nextOf line c radix most .value ≤ most
-unfolding nextOf
-next-most line c radix most = cond-all (λ (t : Taken). t .value ≤ most) (eqb (c .why) 0) (numeral-most _ radix most) (omega arith)
-
 pub asked-size : (line : List ℕ) (at name : ℕ) → askedOf line at name .size ≤ 4096
 unfolding askedOf sizeOf
 asked-size line at name = cond-all (λ (t : Taken). t .value ≤ 4096) (eqb name 0) (next-most line _ 10 4096) (omega arith)

@@ -7,7 +7,7 @@ use mathlib.Core.Path.{_≡_, refl, sym, ap, _∙_}
 use mathlib.Core.Bool.{Bool, true, false, cond, _&&_}
 use mathlib.Core.List.{List, [], _∷_, foldl, foldl-append}
 use borrow.Author.Tests.{lt-ltb, le-ltb, le-leb, lt-leb, leb-true, leb-false, eq-eqb, ne-eqb}
-use lib.Dec.{leb, ltb}
+use lib.Dec.{eqb, leb, ltb}
 use lib.ListN.{length, take, drop, getD, take-append-drop}
 use lib.Seq.{take-suc}
 use Rattle.words.specs.declared.Cursor.{Cursor}
@@ -138,3 +138,15 @@ pub next-read : (text : List ℕ) (c : Cursor) (radix most start end : ℕ) (r :
     → r ≡ numeralOf (between text start end) radix most → nextOf text c radix most ≡ takenOf r end
 unfolding nextOf
 next-read text c radix most start end r h s e n = rw (eq-eqb (c .why) 0 h, ← s, ← e, ← n)
+
+-- it is at most the most
+pub next-most : (text : List ℕ) (c : Cursor) (radix most : ℕ) → nextOf text c radix most .value ≤ most
+unfolding nextOf
+next-most text c radix most = go (eqb (c .why) 0)
+  where
+    start : ℕ
+    start = skipOf text (c .at)
+
+    go : (t : Bool) → cond t (takenOf (numeralOf (between text start (findOf text start 32)) radix most) (findOf text start 32)) (nothingOf c) .value ≤ most
+    go true = numeral-most (between text start (findOf text start 32)) radix most
+    go false = omega arith
