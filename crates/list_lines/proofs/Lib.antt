@@ -1,3 +1,4 @@
 pub mod Adding
 pub mod Working
+pub mod Lengths
 pub mod Claims

@@ -7,4 +7,4 @@ use Rattle.log_lines.specs.Logged.{logLine}
 
 -- no answer is longer, for any log, line and area
 abbrev pub Short : Type 0
-Short = (ring : Ring) (nth : ℕ) (line : List ℕ) (at : ℕ) (area : List ℕ) → length (logLine ring nth line at area .bytes) ≤ 63
+Short = (ring : Ring) (nth : ℕ) (line : List ℕ) (at : ℕ) (area : List ℕ) → length (logLine ring nth line at area .bytes) ≤ 55

@@ -113,9 +113,9 @@ fn release_line(
         };
     }
     let answer = ring.release(area, count.value as usize);
-    let after = answer.ring;
+    let rest = answer.ring;
     Left {
-        ring: after,
+        ring: rest,
         at: held(page, from, answer),
     }
 }
