@@ -8,10 +8,10 @@ use lib.Dec.{eqb, ltb}
 use lib.ListN.{length, length-replicate}
 use Rattle.figures.specs.Figures.{codes, text}
 use Rattle.words.specs.Words.{skipOf, findOf, placeOf}
-use Rattle.words.specs.Numbers.{between, nextOf}
+use Rattle.words.specs.Numbers.{between}
 use Rattle.words.specs.declared.Cursor.{Cursor}
 use Rattle.words.specs.declared.Taken.{Taken}
-use Rattle.words.proofs.Numerals.{numeral-most}
+use Rattle.words.proofs.Numerals.{next-most}
 use Rattle.tick.proofs.Choices.{cond-all}
 use Rattle.room.specs.Room.{filled}
 use Rattle.board.specs.Calls.{Areas}
@@ -22,14 +22,9 @@ use Rattle.board_lines.specs.Asked.{names, lastOf, readOf, nothingAsked,
 use Rattle.board_lines.specs.Ordered.{Lined, spoiltOf, toldOf, filledTo, calledOf, orderLine}
 use Rattle.board_lines.specs.Claims.{Sized, Short}
 use Rattle.board_lines.proofs.Areas.{told-long}
-use Rattle.board_lines.proofs.Lengths.{Within, answer-short, board-short}
+use Rattle.board_lines.proofs.Lengths.{answer-short, board-short}
 
 -- ---- sizes
-
--- a number that is read is at most the most
-next-most : (line : List ℕ) (c : Cursor) (radix most : ℕ) → nextOf line c radix most .value ≤ most
-unfolding nextOf
-next-most line c radix most = cond-all (λ (x : Taken). x .value ≤ most) (eqb (c .why) 0) (numeral-most _ radix most) (omega arith)
 
 last-most : (line : List ℕ) (c : Cursor) (name most : ℕ) → lastOf line c name most .value ≤ most
 unfolding lastOf
@@ -62,7 +57,7 @@ record Brief (x : Lined) : Type 0 where
 
 told-brief : (ready : Bool) (o : Outcome) (areas : Areas) → length (areas .zero) ≤ 4096 → length (areas .one) ≤ 4096 → length (areas .two) ≤ 4096 → Brief (toldOf ready o areas)
 unfolding codes toldOf
-told-brief ready o areas hz ho ht = cond-all Brief (spoiltOf areas (o .written)) (record { brief = omega arith }) (record { brief = let h = answer-short areas hz ho ht o .short in omega (arith, h) })
+told-brief ready o areas hz ho ht = cond-all Brief (spoiltOf areas (o .written)) (record { brief = omega arith }) (record { brief = let h = answer-short o areas in omega (arith, h, hz, ho, ht) })
 
 filled-length : (n : ℕ) → length (filled n) ≡ n
 unfolding filled
@@ -79,7 +74,7 @@ unfolding codes orderLine
 order-brief b q areas h =
     cond-all Brief (eqb (q .name) 12) (record { brief = omega arith })
     (cond-all Brief (b .ready)
-    (cond-all Brief (eqb (q .name) 13) (record { brief = let s = board-short (b .board) .short in omega (arith, s) }) (record { brief = called-brief b q h .brief }))
+    (cond-all Brief (eqb (q .name) 13) (record { brief = let s = board-short (b .board) in omega (arith, s) }) (record { brief = called-brief b q h .brief }))
     (record { brief = omega arith }))
 
 pub short : Short

@@ -31,7 +31,7 @@ unfolding hexes
 hexes-length [] = omega arith
 hexes-length (b ∷ bs) = let h = hexes-length bs in simp (length-append, pair-length) (omega arith)
 
-bytes-short : (label : String) (area : List ℕ) (written : ℕ) → length (bytesOf (text label) area written) ≤ len label + (1 + 2 * length area)
+pub bytes-short : (label : String) (area : List ℕ) (written : ℕ) → length (bytesOf (text label) area written) ≤ len label + (1 + 2 * length area)
 unfolding bytesOf
 bytes-short label area written =
     let shown : Upto (1 + 2 * length area) (hexes (take written area)) = simp (hexes-length, length-take) (omega arith) in
@@ -45,19 +45,25 @@ records-short area written =
     let k = bytes-short " records=" area written in
     simp (length-append, codes-length) (omega arith)
 
-event-short : (n : Next) → length (cycleOf (text " next=") n) + length (eventFlags (text " flags=") n) ≤ 35
-unfolding cycleOf eventFlags
-event-short (next.At cycle flags) = let h = number-short (cycle .0) in simp (length-append, codes-length, pair-length) (omega arith)
-event-short next.Never = simp (length-append, codes-length) (omega arith)
+pub cycle-short : (label : String) (n : Next) → length (cycleOf (text label) n) ≤ len label + 20
+unfolding cycleOf
+cycle-short label (next.At cycle flags) = numbered label _ (cycle .0) (omega arith)
+cycle-short label next.Never = simp (length-append, codes-length) (omega arith)
+
+pub event-flags-short : (label : String) (n : Next) → length (eventFlags (text label) n) ≤ len label + 2
+unfolding eventFlags
+event-flags-short label (next.At cycle flags) = simp (length-append, codes-length, pair-length) (omega arith)
+event-flags-short label next.Never = simp (length-append, codes-length) (omega arith)
 
 left-short : (o : Outcome) (area : List ℕ) → length (leftBy o area) ≤ 72 + 2 * length area
 unfolding leftBy
 left-short o area =
-    let h = event-short (nextOf (o .timer)) in
+    let h = cycle-short " next=" (nextOf (o .timer)) in
+    let l = event-flags-short " flags=" (nextOf (o .timer)) in
     let k = records-short area (o .written) in
     simp length-append (omega arith)
 
-said-short : (a : Answer) → length (saidOf a) ≤ 33
+pub said-short : (a : Answer) → length (saidOf a) ≤ 33
 unfolding saidOf
 said-short (answer.Refused n) = numbered _ _ n (omega arith)
 said-short answer.Done = said _ (omega arith)
@@ -66,7 +72,7 @@ said-short (answer.Next e) = said _ (omega arith)
 said-short (answer.Reached f) = said _ (omega arith)
 said-short (answer.Paused cycle f) = numbered _ _ (cycle .0) (omega arith)
 
-unless-short : (a : Answer) (left : List ℕ) → length (unlessRefused a left) ≤ length left
+pub unless-short : (a : Answer) (left : List ℕ) → length (unlessRefused a left) ≤ length left
 unfolding unlessRefused
 unless-short (answer.Refused n) left = omega arith
 unless-short answer.Done left = omega arith
