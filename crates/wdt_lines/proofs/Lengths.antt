@@ -7,15 +7,13 @@ use mathlib.Core.Path.{_≡_, refl}
 use borrow.Author.Tests.{le-leb, leb-true}
 use lib.Dec.{eqb, leb, ltb}
 use lib.ListN.{length, length-append, length-drop}
-use Rattle.figures.specs.Figures.{codes}
 use Rattle.figures.proofs.Writing.{number-short}
 use Rattle.tick.proofs.Choices.{cond-all}
 use Rattle.words.specs.declared.Taken.{Taken}
 use Rattle.words.proofs.Numerals.{next-most}
-use Rattle.page.proofs.Lengths.{pair-length, flag-length}
+use Rattle.page.proofs.Lengths.{Upto, said, numbered, either, codes-length, pair-length, flag-length}
 use Rattle.display.proofs.Lengths.{records-short}
 use Rattle.room.specs.Room.{changedAt}
-use Rattle.wdtcsr.specs.Wdtcsr.{isOpen}
 use Rattle.oscillator.specs.declared.next.Next.{Next}
 use Rattle.oscillator.specs.declared.next.Next.the-variants as next
 use Rattle.oscillator.specs.declared.state.Watchdog.{Watchdog}
@@ -63,17 +61,17 @@ asked-size line at name = cond-all (λ (t : Taken). t .value ≤ 4096) (eqb name
 -- ---- what is shown
 
 said-short : (n : ℕ) (v : Values) → length (saidOf n v) ≤ 33
-unfolding codes saidOf
-said-short n refused = simp length-append (omega (arith, number-short n))
-said-short n none = omega arith
-said-short n (byte value) = simp length-append (omega (arith, pair-length value))
-said-short n (event e) = omega arith
-said-short n (paused cycle) = simp length-append (omega (arith, number-short cycle))
+unfolding saidOf
+said-short n refused = numbered _ _ n (omega arith)
+said-short n none = said _ (omega arith)
+said-short n (byte value) = simp (length-append, codes-length, pair-length) (omega arith)
+said-short n (event e) = said _ (omega arith)
+said-short n (paused cycle) = numbered _ _ cycle (omega arith)
 
 event-short : (e : Next) → length (eventOf e) ≤ 26
-unfolding codes eventOf
-event-short (next.At cycle) = simp length-append (omega (arith, number-short (cycle .0)))
-event-short next.Never = omega arith
+unfolding eventOf
+event-short (next.At cycle) = numbered _ _ (cycle .0) (omega arith)
+event-short next.Never = said _ (omega arith)
 
 unless-short : (v : Values) (left : List ℕ) → length (unlessRefused v left) ≤ length left
 unfolding unlessRefused
@@ -91,18 +89,22 @@ answer-short : (x : Told) → length (answerOf x) ≤ 96 + 2 * length (x .area)
 answer-short x = simp length-append (omega (arith, said-short (x .number) (x .values), unless-short (x .values) (leftBy x), left-short x))
 
 pub told-short : (x : Told) → length (toldOf x) ≤ 96 + 2 * length (x .area)
-unfolding codes toldOf
+unfolding toldOf
 told-short x =
     let at = changedAt (x .area) (x .written) in
-    cond-all (λ (l : List ℕ). length l ≤ 96 + 2 * length (x .area)) (ltb at (length (x .area))) (simp length-append (omega (arith, number-short at))) (answer-short x)
+    either (Upto (96 + 2 * length (x .area))) (ltb at (length (x .area))) (numbered _ _ at (omega arith)) (answer-short x)
 
 bits-short : (w : Watchdog) → length (bitsOf w) ≤ 50
-unfolding codes bitsOf
+unfolding bitsOf
 bits-short w =
-    let m = w .moving in
-    simp length-append (omega (arith, flag-length (m .control .wdif), flag-length (m .control .wdie), flag-length (isOpen (m .window) (w .latest .0)), flag-length (m .control .wde), number-short (m .control .wdp)))
+    let h = number-short (w .moving .control .wdp) in
+    simp (length-append, codes-length, flag-length) (omega arith)
 
 pub state-short : (w : Watchdog) → length (stateOf w) ≤ 134
-unfolding codes stateOf
+unfolding stateOf
 state-short w =
-    simp length-append (omega (arith, number-short (w .moving .count), bits-short w, number-short (w .sync .0), number-short (w .latest .0)))
+    let h = number-short (w .moving .count) in
+    let k = bits-short w in
+    let l = number-short (w .sync .0) in
+    let m = number-short (w .latest .0) in
+    simp (length-append, codes-length) (omega arith)
