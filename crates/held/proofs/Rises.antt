@@ -54,7 +54,7 @@ use Rattle.held.specs.declared.state.Held.{Held}
 use Rattle.held.specs.Held.{Kept, codeOf, flagsIn, never}
 use Rattle.held.specs.Quick.{refusing, ticksTo}
 use Rattle.held.specs.Reply.{replied, Serves}
-use Rattle.held.specs.Rise.{strikesOf, risenIn}
+use Rattle.held.specs.Rise.{strikesOf, startOf, risenIn}
 use Rattle.held.proofs.Answers.{told-serves}
 use Rattle.held.proofs.Holds.{none-next}
 use Rattle.held.proofs.Laws.{gap-shrinks, linear-on}
@@ -164,21 +164,7 @@ asked h cycle room k e n =
     go true r l = r
     go false r l = let q : h .next ≡ never = k .next ∙ sym (none-next (h .timer) r) in absurd (omega arith)
 
--- ---- where it begins
-abbrev pub startOf : Held → Rise
-startOf h = record {
-  next = h .next;
-  to = 0;
-  count = h .timer .counter .count;
-  gap = (h .next - 1 - h .timer .clock .sync .0) / 2 ^ h .shift;
-  top = h .top;
-  ocr = h .timer .ocr;
-  oc = h .timer .oc;
-  drives = h .timer .drives;
-  tifr = h .timer .flags .tifr;
-  flags = h .flags;
-}
-
+-- ---- where it ends
 -- what it leaves, of where its events left it
 abbrev pub risenOf : Held → Rise → ℕ → Reply → Risen
 risenOf h b end reply = record {
@@ -244,7 +230,7 @@ module _ {h : Held} {cycle room : ℕ} (a : Asked h cycle room) where
   sync-first : sync < cycleAt p (first + (near + 1))
   sync-first = let u = tick-after p divides sync in let w = cycle-mono p (first + 1) (first + (near + 1)) (omega arith) in omega arith
 
-  pub sync-below : sync < h .next
+  sync-below : sync < h .next
   sync-below = rw next-is sync-first
 
   pub gap-is : startOf h .gap ≡ near
@@ -253,7 +239,7 @@ module _ {h : Held} {cycle room : ℕ} (a : Asked h cycle room) where
       let f : first + (near + 1) - 1 - first ≡ near = omega arith in
       rw (← power, next-is) (e ∙ f)
 
-  pub gap-small : startOf h .gap < 2 ^ 32
+  gap-small : startOf h .gap < 2 ^ 32
   unfolding settingAt
   gap-small = let y = valid-sound t v .steady in let g = gap-max (waveOf t (modeOf t)) (movingOf t) y in let m = y .most in rw gap-is (omega arith)
 
@@ -489,11 +475,8 @@ module _ {h : Held} {cycle room : ℕ} (a : Asked h cycle room) where
           run e = begun area ∙ r .stopped l ∙ rw e refl
 
   -- ---- what the code asks of its numbers
-  pub next-positive : 1 ≤ h .next
-  next-positive = let l = sync-below in omega arith
-
-  pub sync-next : sync ≤ h .next - 1
-  sync-next = let l = sync-below in omega arith
+  pub start-asked : (h .shift < 64) × (sync < h .next) × (startOf h .gap < 2 ^ 32)
+  start-asked = (a .kept .small, sync-below, gap-small)
 
   pub rising-asked : (Fit (h .scene) (h .shift) (startOf h) room) × (h .next ≤ cycle) × (cycle < 2 ^ 63) × (0 + 110 ≤ room)
   rising-asked = (start-fits, a .due, (let l = a .below in omega arith), (let l = a .bytes in omega arith))

@@ -5,9 +5,10 @@ use crate::reply::Reply;
 use crate::state::Held;
 use strike::Rise;
 use tick::setting::Drives;
+use time::units::Cycle;
 use wave::count::counted;
 use wave::kinds::dual_slope;
-ghost use Prim.Native.Nat.{_≤_, max};
+ghost use Prim.Native.Nat.{_≤_, _<_, _^_};
 ghost use mathlib.Core.Path.{_≡_};
 ghost use mathlib.Core.Bool.{true};
 ghost use lib.ListN.{length};
@@ -16,7 +17,7 @@ ghost use Rattle.timer.specs.Calls.{answered};
 ghost use Rattle.timer.specs.declared.calls.Call.{Call};
 ghost use Rattle.held.specs.Held.{Kept};
 ghost use Rattle.held.specs.Reply.{Serves};
-ghost use Rattle.held.specs.Rise.{strikesOf, risenIn};
+ghost use Rattle.held.specs.Rise.{strikesOf, startOf, risenIn};
 
 // May an advance strike the events from what is kept: the cycle is accepted, the count rises, no match is blocked, and any tick's records fit.
 pub fn strikes(kind: u8, blocked: bool, latest: u64, next: u64, cycle: u64, room: usize) -> bool
@@ -25,10 +26,31 @@ pub fn strikes(kind: u8, blocked: bool, latest: u64, next: u64, cycle: u64, room
     (refusing(false, latest, next, cycle) == 0) & !blocked & !dual_slope(kind) & (110 <= room)
 }
 
-fn later(a: u64, b: u64) -> u64
-    ensures { λ r. ⌜ r ≡ max a b ⌝ }
+// Where the run begins: at the sync cycle, with the ticks before the next event's.
+fn start(h: Held) -> Rise
+    requires { ⌜ (h .shift < 64) × (h .timer .clock .sync .0 < h .next) × (startOf h .gap < 2 ^ 32) ⌝ }
+    ensures { λ r. ⌜ r ≡ startOf h ⌝ }
 {
-    if a <= b { b } else { a }
+    let t = h.timer;
+    let counter = t.counter;
+    let clock = t.clock;
+    let sync = clock.sync;
+    let ocr = t.ocr;
+    let oc = t.oc;
+    let drives = t.drives;
+    let flags = t.flags;
+    Rise {
+        next: h.next,
+        to: 0,
+        count: counter.count,
+        gap: ((h.next - 1 - sync.0) >> h.shift) as u32,
+        top: h.top,
+        ocr,
+        oc,
+        drives,
+        tifr: flags.tifr,
+        flags: h.flags,
+    }
 }
 
 // What such an advance changes of a held timer, and its reply.
@@ -58,30 +80,20 @@ pub fn rising(h: Held, cycle: u64, area: &mut [u8]) -> Risen
     let origin = clock.origin;
     let sync = clock.sync;
     let latest = clock.latest;
-    let ocr = t.ocr;
-    let oc = t.oc;
-    let drives = t.drives;
-    let flags = t.flags;
     let scene = h.scene;
     let shift = h.shift;
-    let start = Rise {
-        next: h.next,
-        to: 0,
-        count: was.count,
-        gap: ((h.next - 1 - sync.0) >> shift) as u32,
-        top: h.top,
-        ocr,
-        oc,
-        drives,
-        tifr: flags.tifr,
-        flags: h.flags,
-    };
-    let e = start.rising(scene, shift, cycle, area);
+    let e = start(h).rising(scene, shift, cycle, area);
     let paused = e.next <= cycle;
     let last = e.next - (1 << shift);
-    let end = if paused { later(sync.0, last) } else { cycle };
+    let end = if paused {
+        let at = sync.later(Cycle(last));
+        at.0
+    } else {
+        cycle
+    };
     let left = ((e.next - 1 - end) >> shift) as u32;
     let ticks = ((end - origin.0) >> shift) - ((sync.0 - origin.0) >> shift);
+    let newest = latest.later(Cycle(end));
     let ocr = e.ocr;
     let oc = e.oc;
     let drives = e.drives;
@@ -98,7 +110,7 @@ pub fn rising(h: Held, cycle: u64, area: &mut [u8]) -> Risen
         drives,
         tifr: e.tifr,
         sync: end,
-        latest: later(latest.0, end),
+        latest: newest.0,
         next: e.next,
         top: e.top,
         flags: e.flags,
