@@ -12,6 +12,7 @@ ghost use Rattle.scene.specs.Scene.{drivenOf};
 
 impl Scene {
     // The outputs after the matches whose bits are raised, then at BOTTOM. In N, C and F no level depends on the way of the count.
+    // A bit is tested here, so that the outputs stay where they are for one that is not raised.
     pub fn driven(
         self,
         up: u8,
@@ -27,13 +28,19 @@ impl Scene {
         let a = self.a;
         let b = self.b;
         let c = self.c;
-        let first = start.matched(kind, a, 0, on(up, self.fa), true, area, cycle);
-        let second = first.matched(kind, b, 1, on(up, self.fb), true, area, cycle);
-        let third = second.matched(kind, c, 2, on(up, self.fc), true, area, cycle);
-        if bottom {
-            bottoms(a, b, c, third, area, cycle)
-        } else {
-            third
+        let mut o = start;
+        if on(up, self.fa) {
+            o = o.matched(kind, a, 0, true, true, area, cycle);
         }
+        if on(up, self.fb) {
+            o = o.matched(kind, b, 1, true, true, area, cycle);
+        }
+        if on(up, self.fc) {
+            o = o.matched(kind, c, 2, true, true, area, cycle);
+        }
+        if bottom {
+            o = bottoms(a, b, c, o, area, cycle);
+        }
+        o
     }
 }
