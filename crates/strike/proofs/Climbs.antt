@@ -5,11 +5,12 @@ use native.Mathlib.Nat.{div-le-self, le-refl}
 use mathlib.Core.Path.{_≡_, refl, sym, ap, _∙_}
 use mathlib.Core.Bool.{Bool, true, false, cond, _&&_, false≢true}
 use mathlib.Core.List.{List}
+use mathlib.Core.Logic.{_⊎_, inl, inr, ⊎-elim}
 use lib.IntN.{ℤ}
 use lib.ListN.{length, take, drop}
 use lib.Seq.{sets, sets-eq, length-take-le, take-at, drop-drop}
 use lib.Dec.{leb}
-use borrow.Author.Tests.{leb-true}
+use borrow.Author.Tests.{leb-true, le-leb}
 use Rattle.records.specs.Records.{recordsOf}
 use Rattle.time.specs.declared.units.Prescaler.{Prescaler}
 use Rattle.time.specs.Units.{ticksAt, cycleAt}
@@ -21,7 +22,7 @@ use Rattle.passage.proofs.Loops.{Going, begins, turned, wrote, halted}
 use Rattle.scene.specs.declared.state.Scene.{Scene}
 use Rattle.strike.specs.declared.Rise.{Rise}
 use Rattle.strike.specs.declared.Aside.{Aside}
-use Rattle.strike.specs.Strike.{tickIn, runIn, eventIn, asideIn, Known, Fit, Struck, Climbed, Rose, Told}
+use Rattle.strike.specs.Strike.{tickIn, runIn, eventIn, asideIn, Known, Fit, Struck, Lone, Climbed, Rose, Told}
 use Rattle.strike.proofs.Strikes.{step-some}
 
 -- ---- the next event's tick is due
@@ -195,6 +196,25 @@ module _ {c : Scene} (shift : ℕ) {a : Rise} {cycle : ℕ} {before : List ℕ} 
 
     pub all-climbed : Told c shift a (λ s p d o first. Ready s p (runIn p d o first a) (ticksAt p cycle) (length before) → Climbed s p d o first a (ticksAt p cycle) before r area)
     all-climbed = λ s p d o first es ed k y. climbed (i s p d o first es ed k y) (divides p shift ed)
+
+-- ---- no turn yet, or the event that was next is struck, and alone where the run goes to its cycle
+abbrev pub Turns : Scene → ℕ → Rise → ℕ → List ℕ → Rise → List ℕ → Type 0
+Turns c shift a cycle before r area = ((r ≡ a) × (area ≡ before)) ⊎ ((a .next < r .next) × (cycle ≡ a .next → Lone c shift a before r area))
+
+module _ {c : Scene} {shift : ℕ} {a : Rise} {cycle : ℕ} {before : List ℕ} {r : Rise} {area : List ℕ} (t : Turns c shift a cycle before r area) where
+  pub turns-struck : {r₁ : Rise} {area₁ : List ℕ} → r .next ≤ cycle → r .next < r₁ .next → r₁ .to ≤ r .to + 110 → Told c shift r (λ s p d o first. Struck s p d o first r area r₁ area₁) → Turns c shift a cycle before r₁ area₁
+  turns-struck {r₁} {area₁} n l m w = ⊎-elim
+      (λ e. let o : Lone c shift r area r₁ area₁ = record { later = l; most = m; struck = w } in
+      let v : Lone c shift a before r₁ area₁ = rw (e .0, e .1) at o in
+      inr (v .later, λ _. v))
+      (λ e. inr (omega (arith, e .0), λ q. absurd (omega (arith, e .0, q))))
+      t
+
+  pub turns-lone : leb (r .next) cycle && leb 110 (length area - r .to) ≡ false → cycle ≡ a .next → a .to + 110 ≤ length before → Lone c shift a before r area
+  turns-lone h q m = ⊎-elim
+      (λ e. absurd (false≢true (sym h ∙ rw (e .0, e .1, le-leb (a .next) cycle (omega arith), le-leb 110 (length before - a .to) (omega arith)) refl)))
+      (λ e. e .1 q)
+      t
 
 -- ---- what the code asks of a turn
 pub goes-on : (next cycle space : ℕ) → leb next cycle && leb 110 space ≡ true → (next ≤ cycle) × (110 ≤ space)

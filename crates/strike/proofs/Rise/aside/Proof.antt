@@ -6,11 +6,13 @@ use borrow.Author.Needs.{needs}
 use Rattle.strike.proofs.Rise.aside.Statement.{statement}
 use Rattle.strike.proofs.Rise.aside.Tie as tie
 
-strike-requires : tie.Need-strike-requires
-strike-requires c κs = (fit-placed 0 (c .before .pre .0) (omega arith), c .before .pre .1, le-refl 110)
+climbs-requires : tie.Need-climbs-requires
+climbs-requires c κs = (fit-placed 0 (c .before .pre .0) (omega arith), c .before .pre .1)
 
 returns : tie.Need-returns
-returns c = (fit-moved (sym (c .before .strike .kept .1 .1 .1 .0)) (c .before .strike .ensures .0), c .before .strike .ensures .1, c .before .strike .ensures .2, all-made (c .before .before .before .args .shift) refl (c .before .strike .kept .1 .1 .1 .0) (c .before .strike .ensures .3))
+returns c =
+    let w = c .before .climbs .ensures .2 refl (le-refl 110) in
+    (fit-moved (sym (c .before .climbs .kept .1 .1 .1 .1 .0)) (c .before .climbs .ensures .0), w .later, w .most, all-made (c .before .before .before .args .shift) refl (c .before .climbs .kept .1 .1 .1 .1 .0) (w .struck))
 
 pub aside-spec : {M : Type 1} → statement M
-aside-spec = tie.close (tie.spec (λ c. search needs) strike-requires returns)
+aside-spec = tie.close (tie.spec (λ c. search needs) climbs-requires returns)
