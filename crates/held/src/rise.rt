@@ -81,18 +81,16 @@ pub fn rising(h: Held, cycle: u64, area: &mut [u8]) -> Risen
     let sync = clock.sync;
     let latest = clock.latest;
     let scene = h.scene;
-    let shift = h.shift;
-    let e = start(h).rising(scene, shift, cycle, area);
+    let e = start(h).rising(scene, h.shift, cycle, area);
     let paused = e.next <= cycle;
-    let last = e.next - (1 << shift);
     let end = if paused {
-        let at = sync.later(Cycle(last));
+        let at = sync.later(Cycle(e.next - (1 << h.shift)));
         at.0
     } else {
         cycle
     };
-    let left = ((e.next - 1 - end) >> shift) as u32;
-    let ticks = ((end - origin.0) >> shift) - ((sync.0 - origin.0) >> shift);
+    let left = ((e.next - 1 - end) >> h.shift) as u32;
+    let ticks = ((end - origin.0) >> h.shift) - ((sync.0 - origin.0) >> h.shift);
     let newest = latest.later(Cycle(end));
     let ocr = e.ocr;
     let oc = e.oc;

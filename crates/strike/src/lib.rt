@@ -87,13 +87,13 @@ impl Rise {
         let near = self.count + self.gap;
         let bottom = s.fast & (near == self.top);
         let count = s.after(near, self.top);
-        let mut top = self.top;
-        let mut ocr = self.ocr;
+        let mut limit = self.top;
+        let mut active = self.ocr;
         if bottom {
-            top = s.limit(top);
-            ocr = s.buffer;
+            limit = s.limit(limit);
+            active = s.buffer;
         }
-        let gap = s.climb(count, top, ocr);
+        let way = s.climb(count, limit, active);
         let tifr = self.tifr | self.flags;
         let mut oc = self.oc;
         let mut drives = self.drives;
@@ -111,16 +111,16 @@ impl Rise {
             to = o.to;
         }
         Rise {
-            next: self.next + (((gap as u64) + 1) << shift),
+            next: self.next + (((way as u64) + 1) << shift),
             to: s.told(self.flags, tifr, area, to, Cycle(self.next)),
             count,
-            gap,
-            top,
-            ocr,
+            gap: way,
+            top: limit,
+            ocr: active,
             oc,
             drives,
             tifr,
-            flags: s.raised(count + gap, top, ocr),
+            flags: s.raised(count + way, limit, active),
         }
     }
 

@@ -16,7 +16,7 @@ use Rattle.scene.proofs.state.Scene.raised.Reads as raised-reads
 use Rattle.scene.proofs.state.Scene.told.Reads as told-reads
 
 -- TOP and the compares after the load, if there is one
-loads : (c : lts.Joined1 (after-reads.Asked, after-reads.Learnt, limit-reads.Asked, limit-reads.Learnt, climb-reads.Asked, climb-reads.Learnt, driven-reads.Asked, driven-reads.Learnt, told-reads.Asked, told-reads.Learnt, raised-reads.Asked, raised-reads.Learnt) reads.Pre reads.Post) → Loads (c .before .before .before .before .before .before .before .args .s) (c .before .before .before .before .before .before .before .args .self) (c .if1 .top) (c .if1 .ocr)
+loads : (c : lts.Joined1 (after-reads.Asked, after-reads.Learnt, limit-reads.Asked, limit-reads.Learnt, climb-reads.Asked, climb-reads.Learnt, driven-reads.Asked, driven-reads.Learnt, told-reads.Asked, told-reads.Learnt, raised-reads.Asked, raised-reads.Learnt) reads.Pre reads.Post) → Loads (c .before .before .before .before .before .before .before .args .s) (c .before .before .before .before .before .before .before .args .self) (c .if1 .limit) (c .if1 .active)
 loads c = ⊎-elim (λ w. loaded (w .0 .taken) (w .1 .ensures) (w .3) (w .4)) (λ w. unloaded (w .0 .left) (w .1) (w .2)) (c .if1 .came)
 
 -- the outputs, if a channel may drive its pin
