@@ -389,6 +389,7 @@ extern "C" {
     pub fn paddlemauve_count_high(timer: &mut Held, cycle: u64) -> Reply;
     pub fn paddlemauve_tifr(timer: &mut Held, cycle: u64) -> Reply;
     pub fn paddlemauve_clear(timer: &mut Held, ones: u8, cycle: u64) -> Reply;
+    pub fn paddlemauve_write(timer: &mut Held, cycle: u64, area: Area, address: u16, value: u8) -> Reply;
     pub fn paddlemauve_writes(timer: Timer, list: List, area: Area) -> Ended;
     pub fn paddlemauve_board() -> Board;
     pub fn paddlemauve_board_shape() -> Shape;

@@ -4,4 +4,5 @@ pub mod Holds
 pub mod Puts
 pub mod Answers
 pub mod Stills
+pub mod Stores
 pub mod Rises

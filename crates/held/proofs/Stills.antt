@@ -32,9 +32,10 @@ use Rattle.counter.proofs.Runs.{start-kept}
 use Rattle.answers.specs.declared.Answer.the-variants as answer
 use Rattle.answers.specs.Answers.{Told, Tells, byte, reached, given, turned}
 use Rattle.answers.specs.Refusals.{late, refusal}
+use Rattle.timer.specs.declared.calls.Call.{Call}
 use Rattle.timer.specs.declared.calls.Call.the-variants as call
 use Rattle.timer.specs.Calls.{answered, performed, moved as advancing, asks, works, says, refusalOf}
-use Rattle.timer.proofs.Outcomes.{in-time, plainly}
+use Rattle.timer.proofs.Outcomes.{Ready, in-time, plainly}
 use Rattle.held.specs.declared.state.Held.{Held}
 use Rattle.held.specs.declared.quick.Counted.{Counted}
 use Rattle.held.specs.declared.quick.Stilled.{Stilled}
@@ -132,7 +133,7 @@ module _ (h : Held) (cycle : ℕ) (k : Quiet h cycle) where
   abbrev s : Stilled
   s = stilled (t .counter) (t .clock) (h .shift) (h .down) cycle
 
-  abbrev stored : Held
+  abbrev pub stored : Held
   stored = clockIn (counterIn h (s .counter)) (s .clock)
 
   -- it is what is stored
@@ -159,6 +160,12 @@ module _ (h : Held) (cycle : ℕ) (k : Quiet h cycle) where
     scene = k .kept .scene;
     top = k .kept .top;
   }
+
+  -- a call that lets time pass works on it
+  pub stored-ready : (c : Call) (area : List ℕ) → refusalOf t c cycle ≡ 0 → asks t c .advances ≡ false → asks t c .syncs ≡ true → Ready t c cycle area (stored .timer)
+  stored-ready c area e a y =
+      let q = synced-quietly t cycle (k .kept .valid) sync-before below in
+      in-time t c cycle area {x = stored .timer} (k .kept .valid) (sym e) refl a y (stored-is ∙ ap (λ (z : Passed). z .timer) (sym q), ap (λ (z : Passed). z .bytes) q, stored-valid)
 
   -- ---- the advance
   advance-in-time : refusalOf t call.Advance cycle ≡ 0

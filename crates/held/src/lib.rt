@@ -5,3 +5,4 @@ pub mod quick;
 pub mod reply;
 pub mod rise;
 pub mod state;
+pub mod write;

@@ -22,6 +22,8 @@ use held::rise::rising;
 use held::rise::strikes;
 use held::state::Held;
 use held::state::held_of;
+use held::write::buffering;
+use held::write::way_of;
 use tick::distance::Distance;
 use time::units::Cycle;
 ghost use Prim.Native.Nat.{_≤_};
@@ -41,6 +43,7 @@ ghost use Rattle.held.specs.Held.{Kept};
 ghost use Rattle.held.specs.Quick.{refusing};
 ghost use Rattle.held.specs.Reply.{Serves, Served, countLow};
 ghost use Rattle.held.specs.Rise.{strikesOf};
+ghost use Rattle.held.specs.Write.{wayOf, Waits, Latches, Stores};
 ghost use Rattle.shell.specs.Numbers.{callOf, shape, answeredTo, Begins, High};
 
 // The refusal's number, 0 for none, and the timer.
@@ -206,6 +209,75 @@ pub extern "C" fn paddlemauve_advance(t: &mut Held, cycle: u64, area: &mut [u8])
         return still(t, cycle);
     } else {
         return work(t, cycle, area);
+    }
+}
+
+// A high byte is written: TEMP takes it.
+fn latch(t: &mut Held, value: u8, cycle: u64) -> Reply
+    requires { ⌜ (Kept (now t)) × (refusing false (now t .timer .clock .latest .0) (now t .next) cycle ≡ 0) ⌝ }
+    ensures { λ r. ⌜ Latches (now (t .entry)) value cycle (now (t .exit)) r ⌝ }
+{
+    t.timer.registers.temp = value;
+    t.timer.clock.latest.0 = cycle;
+    Reply::new(0, 0, 0, 0, t.next, t.flags)
+}
+
+// The low byte of a compare that waits in its buffer is written.
+fn buffer(t: &mut Held, place: u8, value: u8, cycle: u64) -> Reply
+    requires { ⌜ (Kept (now t)) × Waits (now t) place cycle ⌝ }
+    ensures { λ r. ⌜ Stores (now (t .entry)) place value cycle (now (t .exit)) r ⌝ }
+{
+    let a = buffering(*t, place, value, cycle);
+    t.timer.counter = a.counter;
+    t.timer.clock = a.clock;
+    t.timer.buffer = a.buffer;
+    t.scene.buffer = a.buffer;
+    a.reply
+}
+
+// Any write but to a high byte: what goes neither way goes by value, and what is kept is worked out anew.
+fn lower(t: &mut Held, cycle: u64, area: &mut [u8], address: u16, value: u8, way: u8) -> Reply
+    requires { ⌜ (Kept (now t)) × (way ≡ wayOf (now t) address cycle) × (way ≡ 1 → ⊥) ⌝ }
+    ensures { λ r. ⌜ Serves (answered ticks (now (t .entry) .timer) (Call.Write address value) cycle (now (area .entry))) (now (t .exit)) r (now (area .exit)) ⌝ }
+{
+    if way == 0 {
+        let asked = Asked {
+            kind: 4,
+            pin: 0,
+            value,
+            address,
+            cycle,
+        };
+        return paddlemauve_call(t, asked, area);
+    } else {
+        return buffer(t, way, value, cycle);
+    }
+}
+
+// A register's byte is written. The address and the value come last, so that C passes the area in registers.
+#[no_mangle]
+pub extern "C" fn paddlemauve_write(
+    t: &mut Held,
+    cycle: u64,
+    area: &mut [u8],
+    address: u16,
+    value: u8,
+) -> Reply
+    requires { ⌜ Kept (now t) ⌝ }
+    ensures { λ r. ⌜ Serves (answered ticks (now (t .entry) .timer) (Call.Write address value) cycle (now (area .entry))) (now (t .exit)) r (now (area .exit)) ⌝ }
+{
+    let way = way_of(
+        t.timer.config,
+        t.scene.kind,
+        t.timer.clock.latest.0,
+        t.next,
+        address,
+        cycle,
+    );
+    if way == 1 {
+        return latch(t, value, cycle);
+    } else {
+        return lower(t, cycle, area, address, value, way);
     }
 }
 
