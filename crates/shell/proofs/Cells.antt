@@ -26,7 +26,7 @@ use Rattle.counter.proofs.state.Flags.Laws as X′
 use denote.Memory.{cellAt}
 use denote.Struct.Laws as LL
 use Rattle.held.specs.declared.state.Held.{Held}
-use Rattle.held.proofs.Puts.{latestIn, tifrIn, tempIn, counterIn, clockIn}
+use Rattle.held.proofs.Puts.{latestIn, tifrIn, tempIn, counterIn, clockIn, bufferIn, waitingIn}
 use Rattle.shell.proofs.Places.{held-of, timer-of, scene-of, config-of, registers-of, flags-of, drives-of, clock-of, counter-of, cycle-of, Words, words-of, words-typed, Bytes, bytes-of, bytes-typed, nextIn, topIn, bitsIn, syncIn, countIn, odometerIn, ocrIn, ocIn, drivesIn}
 use Rattle.tick.specs.declared.setting.Drives.{Drives}
 use Rattle.tick.proofs.setting.Drives as G
@@ -66,6 +66,9 @@ shift-at = refl
 pub down-at : fieldOf H′.mir 6 ≡ some-at (tyBool, 246)
 down-at = refl
 
+pub waiting-at : fieldOf S′.mir 1 ≡ some-at (tyArray (tyInt w32) 3, 4)
+waiting-at = refl
+
 pub kind-at : fieldOf S′.mir 2 ≡ some-at (tyInt w8, 16)
 kind-at = refl
 
@@ -77,6 +80,9 @@ counter-at = refl
 
 pub ocr-at : fieldOf Z′.mir 2 ≡ some-at (tyArray (tyInt w32) 3, 80)
 ocr-at = refl
+
+pub buffer-at : fieldOf Z′.mir 3 ≡ some-at (tyArray (tyInt w32) 3, 92)
+buffer-at = refl
 
 pub oc-at : fieldOf Z′.mir 4 ≡ some-at (tyArray (tyInt w8) 3, 104)
 oc-at = refl
@@ -169,6 +175,15 @@ with-odometer h u = within (held-of h) 0 (within (timer-of (h .timer)) 1 (within
 abbrev with-ocr : Held → Val → Val
 with-ocr h u = within (held-of h) 0 (within (timer-of (h .timer)) 2 u)
 
+abbrev with-buffer : Held → Val → Val
+with-buffer h u = within (held-of h) 0 (within (timer-of (h .timer)) 3 u)
+
+abbrev with-waiting : Held → Val → Val
+with-waiting h u = within (held-of h) 1 (within (scene-of (h .scene)) 1 u)
+
+abbrev with-config : Held → Val → Val
+with-config h u = within (held-of h) 0 (within (timer-of (h .timer)) 0 u)
+
 abbrev with-oc : Held → Val → Val
 with-oc h u = within (held-of h) 0 (within (timer-of (h .timer)) 4 u)
 
@@ -226,6 +241,15 @@ module _ {M : Type 1} {𝓤 : URA M} {H : Heap 𝓤} {A : Atoms 𝓤} {K : Type 
 
   ocr-part : K → {q : Share} {b o : ℕ} (h : Held) → Part K W (‵ (cell q h b o)) q (tyArray (tyInt w32) 3) b (o + 0 + 80) (words-of (h .timer .ocr)) (λ u. ‵ (valued q b o (with-ocr h u)))
   ocr-part t h = part-raw (tyArray (tyInt w32) 3) (sub t 2 refl (sub t 0 refl (whole t)))
+
+  buffer-part : K → {q : Share} {b o : ℕ} (h : Held) → Part K W (‵ (cell q h b o)) q (tyArray (tyInt w32) 3) b (o + 0 + 92) (words-of (h .timer .buffer)) (λ u. ‵ (valued q b o (with-buffer h u)))
+  buffer-part t h = part-raw (tyArray (tyInt w32) 3) (sub t 3 refl (sub t 0 refl (whole t)))
+
+  waiting-part : K → {q : Share} {b o : ℕ} (h : Held) → Part K W (‵ (cell q h b o)) q (tyArray (tyInt w32) 3) b (o + 184 + 4) (words-of (h .scene .buffer)) (λ u. ‵ (valued q b o (with-waiting h u)))
+  waiting-part t h = part-raw (tyArray (tyInt w32) 3) (sub t 1 refl (sub t 1 refl (whole t)))
+
+  config-part : K → {q : Share} {b o : ℕ} (h : Held) → Part K W (‵ (cell q h b o)) q (Q′.mir) b (o + 0 + 0) (config-of (h .timer .config)) (λ u. ‵ (valued q b o (with-config h u)))
+  config-part t h = part-raw Q′.mir (sub t 0 refl (sub t 0 refl (whole t)))
 
   oc-part : K → {q : Share} {b o : ℕ} (h : Held) → Part K W (‵ (cell q h b o)) q (tyArray (tyInt w8) 3) b (o + 0 + 104) (bytes-of (h .timer .oc)) (λ u. ‵ (valued q b o (with-oc h u)))
   oc-part t h = part-raw (tyArray (tyInt w8) 3) (sub t 4 refl (sub t 0 refl (whole t)))
@@ -293,6 +317,15 @@ module _ {M : Type 1} {𝓤 : URA M} {H : Heap 𝓤} {A : Atoms 𝓤} {K : Type 
 
     pub ocr-stored : K → (i : ℕ) {b o : ℕ} (h : Held) (n : List ℕ) → Words n → nth 𝓤 H A i Γ ≡ ‵ (cell fullShare h b o) → Writes K W Γ (tyArray (tyInt w32) 3) b (o + 0 + 80) (words-of (n)) (put 𝓤 H A i (‵ (cell fullShare (ocrIn h n) b o)) Γ)
     ocr-stored t i {b} {o} h n f e = store-in t i (subst (λ (j : Item 𝓤). Part K W j fullShare (tyArray (tyInt w32) 3) b (o + 0 + 80) (words-of (h .timer .ocr)) (λ u. ‵ (valued fullShare b o (with-ocr h u)))) (sym e) (ocr-part t h)) (words-typed 𝓤 H A W n f)
+
+    pub buffer-stored : K → (i : ℕ) {b o : ℕ} (h : Held) (n : List ℕ) → Words n → nth 𝓤 H A i Γ ≡ ‵ (cell fullShare h b o) → Writes K W Γ (tyArray (tyInt w32) 3) b (o + 0 + 92) (words-of (n)) (put 𝓤 H A i (‵ (cell fullShare (bufferIn h n) b o)) Γ)
+    buffer-stored t i {b} {o} h n f e = store-in t i (subst (λ (j : Item 𝓤). Part K W j fullShare (tyArray (tyInt w32) 3) b (o + 0 + 92) (words-of (h .timer .buffer)) (λ u. ‵ (valued fullShare b o (with-buffer h u)))) (sym e) (buffer-part t h)) (words-typed 𝓤 H A W n f)
+
+    pub waiting-stored : K → (i : ℕ) {b o : ℕ} (h : Held) (n : List ℕ) → Words n → nth 𝓤 H A i Γ ≡ ‵ (cell fullShare h b o) → Writes K W Γ (tyArray (tyInt w32) 3) b (o + 184 + 4) (words-of (n)) (put 𝓤 H A i (‵ (cell fullShare (waitingIn h n) b o)) Γ)
+    waiting-stored t i {b} {o} h n f e = store-in t i (subst (λ (j : Item 𝓤). Part K W j fullShare (tyArray (tyInt w32) 3) b (o + 184 + 4) (words-of (h .scene .buffer)) (λ u. ‵ (valued fullShare b o (with-waiting h u)))) (sym e) (waiting-part t h)) (words-typed 𝓤 H A W n f)
+
+    pub config-read : K → (i : ℕ) {q : Share} {b o : ℕ} (h : Held) → nth 𝓤 H A i Γ ≡ ‵ (cell q h b o) → Reads K W Γ (Q′.mir) b (o + 0 + 0) (config-of (h .timer .config))
+    config-read t i {q} {b} {o} h e = look-in t i (subst (λ (j : Item 𝓤). Part K W j q (Q′.mir) b (o + 0 + 0) (config-of (h .timer .config)) (λ u. ‵ (valued q b o (with-config h u)))) (sym e) (config-part t h))
 
     pub oc-stored : K → (i : ℕ) {b o : ℕ} (h : Held) (n : List ℕ) → Bytes n → nth 𝓤 H A i Γ ≡ ‵ (cell fullShare h b o) → Writes K W Γ (tyArray (tyInt w8) 3) b (o + 0 + 104) (bytes-of (n)) (put 𝓤 H A i (‵ (cell fullShare (ocIn h n) b o)) Γ)
     oc-stored t i {b} {o} h n f e = store-in t i (subst (λ (j : Item 𝓤). Part K W j fullShare (tyArray (tyInt w8) 3) b (o + 0 + 104) (bytes-of (h .timer .oc)) (λ u. ‵ (valued fullShare b o (with-oc h u)))) (sym e) (oc-part t h)) (bytes-typed 𝓤 H A W n f)

@@ -22,10 +22,10 @@ use Rattle.counter.specs.declared.state.Flags.{Flags}
 use Rattle.counter.specs.declared.state.Registers.{Registers}
 use Rattle.counter.specs.declared.state.Timer.{Timer}
 use Rattle.time.specs.Clock.{acceptedAt}
-use Rattle.counter.specs.Parts.{clockTo}
+use Rattle.counter.specs.Parts.{clockTo, comparesTo}
 use Rattle.counter.specs.Registers.{tempTo}
 use Rattle.held.specs.declared.state.Held.{Held}
-use Rattle.held.proofs.Puts.{timerTo, counterTo, latestIn, tifrIn, tempIn, counterIn, clockIn}
+use Rattle.held.proofs.Puts.{timerTo, counterTo, latestIn, tifrIn, tempIn, counterIn, clockIn, bufferIn, waitingTo, waitingIn}
 use Rattle.tick.proofs.setting.Drives as G
 use Rattle.tick.proofs.setting.Drives.Laws as G′
 use Rattle.scene.proofs.state.Scene as S
@@ -134,6 +134,9 @@ IsCycle n = Is N.the-row n (cycle-of n ∷ [])
 -- ---- what is known of a part
 timer-in : (h : Held) → IsHeld h → IsTimer (h .timer)
 timer-in h w = LL.owed H.the-type H′.the-laws h _ w .0
+
+pub config-in : (h : Held) → IsHeld h → Is Q.the-row (h .timer .config) (config-of (h .timer .config) ∷ [])
+config-in h w = LL.owed T.the-type T′.the-laws (h .timer) _ (timer-in h w) .0
 
 pub counter-in : (h : Held) → IsHeld h → IsCounter (h .timer .counter)
 counter-in h w = LL.owed T.the-type T′.the-laws (h .timer) _ (timer-in h w) .1 .0
@@ -310,6 +313,17 @@ pub ocr-put : (h : Held) (xs : List ℕ) → IsHeld h → Words xs → IsHeld (o
 ocr-put h xs w u =
     let t : Timer = ocrIn h xs .timer in
     let p = LL.owed T.the-type T′.the-laws (h .timer) _ (timer-in h w) in timer-put h t w (LL.owes T.the-type T′.the-laws t (p .0, (p .1 .0, (u, p .1 .1 .1))))
+
+pub buffer-put : (h : Held) (xs : List ℕ) → IsHeld h → Words xs → IsHeld (bufferIn h xs)
+buffer-put h xs w u =
+    let p = LL.owed T.the-type T′.the-laws (h .timer) _ (timer-in h w) in
+    timer-put h (comparesTo (h .timer) (h .timer .ocr) xs) w (LL.owes T.the-type T′.the-laws (comparesTo (h .timer) (h .timer .ocr) xs) (p .0, (p .1 .0, (p .1 .1 .0, (u, p .1 .1 .1 .1)))))
+
+pub waiting-put : (h : Held) (xs : List ℕ) → IsHeld h → Words xs → IsHeld (waitingIn h xs)
+waiting-put h xs w u =
+    let p = LL.owed H.the-type H′.the-laws h _ w in
+    let s = LL.owed S.the-type S′.the-laws (h .scene) _ (p .1 .0) in
+    LL.owes H.the-type H′.the-laws (waitingIn h xs) (p .0, (LL.owes S.the-type S′.the-laws (waitingTo (h .scene) xs) (s .0, (u, s .1 .1)), p .1 .1))
 
 pub oc-put : (h : Held) (xs : List ℕ) → IsHeld h → Bytes xs → IsHeld (ocIn h xs)
 oc-put h xs w u =
