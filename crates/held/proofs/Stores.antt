@@ -4,7 +4,7 @@ use native.Mathlib.Omega.{arith}
 use native.Mathlib.Nat.{mod-eq-of-lt}
 use mathlib.Core.Path.{_≡_, refl, sym, ap, _∙_}
 use mathlib.Core.Bool.{Bool, true, false, cond, not, _&&_, true≢false}
-use mathlib.Core.List.{List, []}
+use mathlib.Core.List.{List}
 use lib.Dec.{eqb, leb}
 use lib.ListN.{set}
 use borrow.Author.Tests.{eqb-true, leb-true, lt-leb, ne-eqb, not-true}
@@ -24,7 +24,7 @@ use Rattle.counter.specs.Modes.{modeOf, waveOf, divisorOf, heldOf, runningOf}
 use Rattle.counter.specs.Next.{nextAt, nextOf}
 use Rattle.counter.specs.Parts.{comparesTo}
 use Rattle.counter.specs.Registers.{isHigh, immediate, tempTo, compareTo, committed, commit, written}
-use Rattle.counter.specs.Setting.{settingAt, settingOf}
+use Rattle.counter.specs.Setting.{settingAt}
 use Rattle.counter.specs.Valid.{Valid}
 use Rattle.answers.specs.declared.Answer.the-variants as answer
 use Rattle.answers.specs.Answers.{Tells}
@@ -33,7 +33,6 @@ use Rattle.timer.specs.declared.calls.Call.the-variants as call
 use Rattle.timer.specs.Calls.{answered, asks, works, says}
 use Rattle.timer.proofs.Outcomes.{plainly}
 use Rattle.held.specs.declared.state.Held.{Held}
-use Rattle.held.specs.declared.quick.Stilled.{Stilled}
 use Rattle.held.specs.declared.write.Buffered.{Buffered}
 use Rattle.held.specs.Held.{Kept, codeOf, flagsIn}
 use Rattle.held.specs.Quick.{refusing, stilled}

@@ -54,7 +54,6 @@ use Rattle.timer.specs.Calls.{answered}
 use Rattle.shell.proofs.asked.Asked as N
 use Rattle.shell.proofs.asked.Asked.Laws as N′
 use Rattle.held.proofs.state.Held as T
-use Rattle.held.proofs.state.Held.Laws as T′
 use Rattle.held.proofs.reply.Reply as E
 use Rattle.held.proofs.reply.Reply.Laws as E′
 use Rattle.shell.proofs.exports.buffer as buffer
