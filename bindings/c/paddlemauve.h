@@ -107,12 +107,13 @@ struct pm_shifted paddlemauve_shift(struct pm_state state, uint64_t first, uint6
 struct pm_reply paddlemauve_call(struct pm_timer *timer, struct pm_asked asked, struct pm_area area);
 struct pm_ended paddlemauve_writes(struct pm_state state, struct pm_list list, struct pm_area area);
 
-/* The calls of a busy bench, each as paddlemauve_call does it: PM_ADVANCE, PM_NEXT, PM_TIFR, PM_WRITE_TIFR, and PM_READ of TCNTn, low and high byte; of a narrow
- * timer the high byte is PM_NO_REGISTER. */
+/* The calls of a busy bench, each as paddlemauve_call does it: PM_ADVANCE, PM_NEXT, PM_TIFR, PM_WRITE_TIFR, PM_WRITE, and PM_READ of TCNTn, low and high byte; of a
+ * narrow timer the high byte is PM_NO_REGISTER. */
 struct pm_reply paddlemauve_advance(struct pm_timer *timer, uint64_t cycle, struct pm_area area);
 struct pm_reply paddlemauve_next(struct pm_timer *timer, uint64_t cycle);
 struct pm_reply paddlemauve_tifr(struct pm_timer *timer, uint64_t cycle);
 struct pm_reply paddlemauve_clear(struct pm_timer *timer, uint8_t ones, uint64_t cycle);
+struct pm_reply paddlemauve_write(struct pm_timer *timer, uint64_t cycle, struct pm_area area, uint16_t address, uint8_t value);
 struct pm_reply paddlemauve_count_low(struct pm_timer *timer, uint64_t cycle);
 struct pm_reply paddlemauve_count_high(struct pm_timer *timer, uint64_t cycle);
 

@@ -51,6 +51,14 @@ int main(void) {
     struct pm_timer again = paddlemauve_hold(begun.timer.state);
     assert(paddlemauve_tifr(&again, 256).next == 257);
 
+    /* OCR1B, high and low byte, in fast PWM: the compare waits in its buffer, and the next event stands. */
+    struct pm_begun wide = paddlemauve_start(pm_m328p[1].config);
+    assert(paddlemauve_write(&wide.timer, 0, area, 0x80, 0x03).number == 0 && paddlemauve_write(&wide.timer, 0, area, 0x81, 0x1a).next == 8);
+    assert(paddlemauve_write(&wide.timer, 7, area, 0x8b, 0x12).next == 8 && wide.timer.state.registers.temp == 0x12);
+    done = paddlemauve_write(&wide.timer, 7, area, 0x8a, 0x34);
+    assert(done.number == 0 && done.what == PM_NOTHING && done.next == 8 && wide.timer.state.buffer[1] == 0x1234 && wide.timer.state.ocr[1] == 0);
+    assert(paddlemauve_write(&wide.timer, 8, area, 0x8a, 0x34).number == PM_EVENT_DUE && paddlemauve_write(&wide.timer, 8, area, 0x90, 0).number == PM_NO_REGISTER);
+
     struct pm_watched w = paddlemauve_watchdog_write(paddlemauve_watchdog(), 0x08, 0);
     assert(w.report.number == 0 && w.watchdog.moving.control.wde);
     w = paddlemauve_watchdog_advance(w.watchdog, 256000, area);
