@@ -348,11 +348,22 @@ impl Config {
         let b = self.b;
         let c = self.c;
         let icr = self.icr;
-        let control = self.control(address);
-        let capture = self.pair(icr.present, icr.address, address, 8, control);
-        let third = self.pair(c.present, c.address, address, 6, capture);
-        let second = self.pair(b.present, b.address, address, 4, third);
-        let first = self.pair(a.present, a.address, address, 2, second);
-        self.pair(true, self.tcnt, address, 0, first)
+        let count = self.pair(true, self.tcnt, address, 0, 13);
+        if count != 13 {
+            return count;
+        }
+        let first = self.pair(a.present, a.address, address, 2, 13);
+        if first != 13 {
+            return first;
+        }
+        let second = self.pair(b.present, b.address, address, 4, 13);
+        if second != 13 {
+            return second;
+        }
+        let third = self.pair(c.present, c.address, address, 6, 13);
+        if third != 13 {
+            return third;
+        }
+        self.pair(icr.present, icr.address, address, 8, self.control(address))
     }
 }
