@@ -92,7 +92,8 @@ impl Side for Ours {
 
     #[inline]
     fn write_at(&mut self, address: u16, value: u8, cycle: u64) {
-        self.call(Call::Write(address, value), cycle);
+        self.timer.write(address, value, cycle, &mut self.area).expect("no event is due");
+        self.next = None;
     }
     #[inline]
     fn tifr(&mut self, cycle: u64) -> u8 {

@@ -154,7 +154,9 @@ impl Timer {
     /// A register's byte is written; yields the bytes of the records.
     #[inline]
     pub fn write(&mut self, address: u16, value: u8, cycle: u64, area: &mut [u8]) -> Result<usize, Refusal> {
-        self.recorded(Call::Write(address, value), cycle, area)
+        // SAFETY: as of call.
+        let reply = unsafe { raw::paddlemauve_write(&mut self.raw, cycle, raw::Area::of(area), address, value) };
+        accepted(&reply).map(|()| reply.written as usize)
     }
 
     #[inline]
