@@ -1,6 +1,5 @@
 -- What a list of writes tells, as its line does.
 use Prim.Native.Nat.{ℕ, _*_, _-_, _≤_, _<_}
-use native.Mathlib.Omega.{arith}
 use mathlib.Core.Bool.{Bool, true, false, cond}
 use mathlib.Core.List.{List, _++_}
 use mathlib.Core.Path.{_≡_, refl, sym, ap, _∙_}
@@ -20,7 +19,7 @@ use Rattle.writes.specs.declared.Written.{Written}
 use Rattle.writes.specs.Writes.{Listed, Lists}
 use Rattle.timer_lines.specs.declared.socket.Socket.{Socket}
 use Rattle.list_lines.specs.declared.worked.Left.{Left}
-use Rattle.list_lines.specs.Lists.{Lined, saying, endedOf, toldOf, workedOf, behind, onTimer, ofItems, ofWord, writesLine, Leaves}
+use Rattle.list_lines.specs.Lists.{saying, endedOf, toldOf, workedOf, behind, onTimer, ofItems, ofWord, writesLine, Leaves}
 
 module _ (s : Socket) (n : ℕ) (x : Listed) (w : Written) (after old new : List ℕ) (from at : ℕ) (k : n ≤ 400) (g : Lists x w after) where
   -- the area changed beyond what was written

@@ -1,11 +1,10 @@
 -- What a log's lines leave.
 use Prim.Native.Nat.{ℕ, _*_, _-_, _^_, _≤_, _<_}
 use native.Mathlib.Omega.{arith}
-use mathlib.Core.List.{List, [], _++_, append-nil}
-use mathlib.Core.Path.{_≡_, refl, sym, ap, _∙_}
+use mathlib.Core.List.{List, _++_, append-nil}
+use mathlib.Core.Path.{_≡_, refl}
 use borrow.Author.Tests.{eq-eqb, ne-eqb, lt-ltb, le-ltb}
 use lib.ListN.{length, take, drop}
-use lib.Seq.{take-all}
 use Rattle.figures.specs.Figures.{text, number}
 use Rattle.words.specs.Words.{skipOf, findOf, placeOf, exactlyOf}
 use Rattle.words.specs.Numbers.{between, nextOf}
@@ -21,7 +20,7 @@ use Rattle.log.specs.Log.{Valid, released}
 use Rattle.log.specs.declared.Answer.{Answer}
 use Rattle.log.specs.declared.Ring.{Ring}
 use Rattle.log_lines.specs.declared.Left.{Left}
-use Rattle.log_lines.specs.Logged.{saying, heldOf, placedBy, addedOf, releasedOf, addOf, releaseOf, readOf, namedOf, logLine, Leaves}
+use Rattle.log_lines.specs.Logged.{saying, heldOf, placedBy, addedOf, addOf, releaseOf, readOf, namedOf, logLine, Leaves}
 
 abbrev leaves : Ring → ℕ → Left
 leaves ring at = record { ring = ring; at = at }

@@ -17,7 +17,6 @@ use words::find;
 use words::place;
 use words::skip;
 ghost use Prim.Native.Nat.{_-_, _^_};
-ghost use mathlib.Core.List.{[]};
 ghost use Rattle.words.specs.Numbers.{nextOf};
 ghost use Rattle.page.specs.Page.{Puts};
 ghost use Rattle.digits.specs.Spelling.{bytesOf};
