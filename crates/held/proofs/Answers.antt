@@ -40,7 +40,7 @@ use Rattle.held.specs.declared.state.Held.{Held}
 use Rattle.held.specs.declared.reply.Reply.{Reply}
 use Rattle.held.specs.Held.{Kept, codeOf, flagsIn, never}
 use Rattle.held.specs.Reply.{whatOf, valueOf, beside, replied, replyOf, Serves, Served}
-use Rattle.held.specs.Quick.{refusing, answering, nexting, flagging, clearing, temping}
+use Rattle.held.specs.Quick.{refusing, answering, nexting}
 use Rattle.held.proofs.Puts.{timerTo, latestIn, tifrIn}
 
 -- the next event's cycle is no word's last
@@ -197,20 +197,27 @@ module _ (h : Held) (cycle : ℕ) (k : Kept h) where
       (record { absent = refl; wrong = refl; halted = refl; tests = refl }) (record { advances = refl; syncs = refl; timer = refl; log = refl; values = refl; number = refl }) (λ n. refl))
 
   -- ---- TIFR
-  pub tifr-right : let r = flagging (t .flags .tifr) (h .next) (h .flags) (t .clock .latest .0) cycle in Served t call.Tifr cycle (latestIn h (r .latest)) (r .reply)
+  timely : (c : Call) → Timed t c true → refusing true (t .clock .latest .0) (h .next) cycle ≡ 0 → refusalOf t c cycle ≡ 0
+  timely c m e = refusal-is h c cycle k m ∙ e
+
+  pub tifr-timed : Timed t call.Tifr true
+  unfolding asks
+  tifr-timed = record { absent = refl; wrong = refl; halted = refl; tests = refl }
+
+  pub tifr-serves : refusing true (t .clock .latest .0) (h .next) cycle ≡ 0 → Served t call.Tifr cycle (latestIn h cycle) (replied 0 1 (t .flags .tifr) 0 (h .next) (h .flags))
   unfolding asks works says
-  tifr-right = answering-right h call.Tifr cycle true (answer.Value (t .flags .tifr)) k
-      (record { absent = refl; wrong = refl; halted = refl; tests = refl }) (record { advances = refl; syncs = refl; timer = refl; log = refl; values = refl; number = refl }) (λ n. refl)
+  tifr-serves e = plain-serves h call.Tifr cycle {a = answer.Value (t .flags .tifr)} k (timely call.Tifr tifr-timed e)
+      (record { advances = refl; syncs = refl; timer = refl; log = refl; values = refl; number = refl }) refl (kept-latest h cycle k)
 
-  pub clear-right : (ones : ℕ) → let r = clearing (t .flags .tifr) (h .next) (h .flags) (t .clock .latest .0) ones cycle in Served t (call.WriteTifr ones) cycle (latestIn (tifrIn h (r .tifr)) (r .latest)) (r .reply)
-  unfolding clearing asks works says
-  clear-right ones = go (eqb (refusing true (t .clock .latest .0) (h .next) cycle) 0) refl
-    where
-      is : refusalOf t (call.WriteTifr ones) cycle ≡ refusing true (t .clock .latest .0) (h .next) cycle
-      is = refusal-is h (call.WriteTifr ones) cycle k (record { absent = refl; wrong = refl; halted = refl; tests = refl })
+  pub clear-timed : (ones : ℕ) → Timed t (call.WriteTifr ones) true
+  unfolding asks
+  clear-timed ones = record { absent = refl; wrong = refl; halted = refl; tests = refl }
 
-      go : (b : Bool) → eqb (refusing true (t .clock .latest .0) (h .next) cycle) 0 ≡ b
-          → let r = clearing (t .flags .tifr) (h .next) (h .flags) (t .clock .latest .0) ones cycle in Served t (call.WriteTifr ones) cycle (latestIn (tifrIn h (r .tifr)) (r .latest)) (r .reply)
-      go true e = rw e (plain-serves h (call.WriteTifr ones) cycle {a = answer.Done} k (is ∙ eqb-true _ _ e)
-          (record { advances = refl; syncs = refl; timer = refl; log = refl; values = refl; number = refl }) refl (kept-tifr h (bitAnd (t .flags .tifr) (255 - ones)) cycle k))
-      go false e = rw e (turned-serves h (call.WriteTifr ones) cycle _ k is (eqb-false _ _ e))
+  pub clear-serves : (ones : ℕ) → refusing true (t .clock .latest .0) (h .next) cycle ≡ 0 → Served t (call.WriteTifr ones) cycle (tifrIn (latestIn h cycle) (bitAnd (t .flags .tifr) (255 - ones))) (replied 0 0 0 0 (h .next) (h .flags))
+  unfolding asks works says
+  clear-serves ones e = plain-serves h (call.WriteTifr ones) cycle {a = answer.Done} k (timely (call.WriteTifr ones) (clear-timed ones) e)
+      (record { advances = refl; syncs = refl; timer = refl; log = refl; values = refl; number = refl }) refl (kept-tifr h (bitAnd (t .flags .tifr) (255 - ones)) cycle k)
+
+  -- ---- a cycle accepted or refused
+  pub refused-serves : (c : Call) {tested : Bool} (n : ℕ) → Timed t c tested → n ≡ refusing tested (t .clock .latest .0) (h .next) cycle → eqb n 0 ≡ false → Served t c cycle h (replied n 5 0 0 0 0)
+  refused-serves c n m e z = turned-serves h c cycle n k (refusal-is h c cycle k m ∙ sym e) (eqb-false n 0 z)

@@ -2,7 +2,7 @@
 use Prim.Native.Nat.{ℕ, _+_, _-_, _/_, _%_, _≤_, _<_, _^_, max}
 use native.Mathlib.Omega.{arith}
 use native.Mathlib.Nat.{div-eq-of-lt}
-use mathlib.Core.Path.{_≡_, refl, sym, ap, _∙_}
+use mathlib.Core.Path.{_≡_, refl, sym, ap, subst, _∙_}
 use mathlib.Core.Bool.{Bool, true, false, cond, not, _&&_}
 use mathlib.Core.List.{List, []}
 use lib.Dec.{eqb, leb, ltb, leb·zero}
@@ -37,14 +37,15 @@ use Rattle.timer.specs.declared.calls.Call.the-variants as call
 use Rattle.timer.specs.Calls.{answered, performed, moved as advancing, asks, works, says, refusalOf}
 use Rattle.timer.proofs.Outcomes.{Ready, in-time, plainly}
 use Rattle.held.specs.declared.state.Held.{Held}
+use Rattle.held.specs.declared.reply.Reply.{Reply}
 use Rattle.held.specs.declared.quick.Counted.{Counted}
 use Rattle.held.specs.declared.quick.Stilled.{Stilled}
 use Rattle.held.specs.Held.{Kept, codeOf, flagsIn}
 use Rattle.held.specs.Reply.{replied, Serves, Served, countLow, countHigh}
-use Rattle.held.specs.Quick.{refusing, temping, ticksTo, stilled, Passing, counting, Asks}
+use Rattle.held.specs.Quick.{refusing, ticksTo, stilled, Passing, counting}
 use Rattle.held.proofs.Laws.{after, synced-quietly, next-of}
 use Rattle.held.proofs.Puts.{timerTo, counterTo, latestIn, tempIn, counterIn, clockIn}
-use Rattle.held.proofs.Answers.{Timed, refusal-is, turned-serves, serves-of, answering-right, kept-latest}
+use Rattle.held.proofs.Answers.{Timed, refusal-is, plain-serves, refused-serves, serves-of, kept-latest}
 
 -- a call in time that passes no event
 pub record Quiet (h : Held) (cycle : ℕ) : Type 0 where
@@ -77,7 +78,7 @@ low-place : (t : Timer) → placeOf (t .config) (t .config .tcnt) ≡ 0
 unfolding placeOf pairAt
 low-place t = simp (eq-eqb (t .config .tcnt) (t .config .tcnt) refl)
 
-low-timed : (t : Timer) → Timed t (countLow t) true
+pub low-timed : (t : Timer) → Timed t (countLow t) true
 unfolding asks
 low-timed t = record { absent = rw (low-place t) refl; wrong = refl; halted = refl; tests = rw (low-place t) refl }
 
@@ -246,31 +247,39 @@ module _ (h : Held) (cycle : ℕ) (k : Kept h) where
   abbrev u : Timer
   u = h .timer
 
+  -- the timer with its cycle accepted
+  abbrev g : Held
+  g = latestIn h cycle
+
   abbrev r : Counted
-  r = counting (u .counter) (u .clock) (u .config .wide) (u .registers .temp) (h .shift) (h .down) (h .next) (h .flags) cycle
+  r = counting (g .timer .counter) (g .timer .clock) (u .config .wide) (u .registers .temp) (h .shift) (h .down) cycle
 
-  pub count-asks : Asks (u .counter) (u .clock) (h .shift) (h .down) (h .next) cycle
-  count-asks e = still-asks h cycle (quiet-in h cycle k e)
+  pub count-asks : refusing true (u .clock .latest .0) (h .next) cycle ≡ 0 → Passing (g .timer .counter) (g .timer .clock) (h .shift) (h .down) cycle
+  unfolding ticksTo
+  count-asks e = let p = still-asks h cycle (quiet-in h cycle k e) in record { small = p .small; began = p .began; later = p .later; room = p .room; low = p .low; turns = p .turns }
 
-  pub low-right : Served u (countLow u) cycle (tempIn (clockIn (counterIn h (r .counter)) (r .clock)) (r .temp)) (r .reply)
-  unfolding counting
-  low-right = go (eqb (refusing true (u .clock .latest .0) (h .next) cycle) 0) refl
-    where
-      go : (b : Bool) → eqb (refusing true (u .clock .latest .0) (h .next) cycle) 0 ≡ b → Served u (countLow u) cycle (tempIn (clockIn (counterIn h (r .counter)) (r .clock)) (r .temp)) (r .reply)
-      go true e = rw e (low-serves h cycle (quiet-in h cycle k (eqb-true _ _ e)))
-      go false e = rw e (turned-serves h (countLow u) cycle _ k (refusal-is h (countLow u) cycle k (low-timed u)) (eqb-false _ _ e))
+  pub low-right : refusing true (u .clock .latest .0) (h .next) cycle ≡ 0 → Served u (countLow u) cycle (tempIn (clockIn (counterIn g (r .counter)) (r .clock)) (r .temp)) (replied 0 1 (r .byte) 0 (h .next) (h .flags))
+  unfolding counting stilled ticksTo
+  low-right e = low-serves h cycle (quiet-in h cycle k e)
 
   high-place : u .config .wide ≡ true → placeOf (u .config) (u .config .tcnt + 1) ≡ 1
   unfolding placeOf pairAt
   high-place e = simp (e, ne-eqb (u .config .tcnt + 1) (u .config .tcnt) (λ z. omega arith), eq-eqb (u .config .tcnt + 1) (u .config .tcnt + 1) refl)
 
-  pub high-right : let x = temping (u .config .wide) (u .registers .temp) (h .next) (h .flags) (u .clock .latest .0) cycle in (area : List ℕ) → Serves (countHigh u cycle area) (latestIn h (x .latest)) (x .reply) area
-  unfolding temping asks works says readValue readTimer
-  high-right area = go (u .config .wide) refl
-    where
-      go : (b : Bool) → u .config .wide ≡ b → let x = temping b (u .registers .temp) (h .next) (h .flags) (u .clock .latest .0) cycle in
-          Serves (cond b (answered ticks u (call.Read (u .config .tcnt + 1)) cycle area) (turned 4 u area)) (latestIn h (x .latest)) (x .reply) area
-      go true e = answering-right h (call.Read (u .config .tcnt + 1)) cycle false (answer.Value (u .registers .temp)) k
-          (record { absent = rw (high-place e) refl; wrong = refl; halted = refl; tests = rw (high-place e) refl })
-          (record { advances = refl; syncs = rw (high-place e) refl; timer = rw (high-place e) refl; log = refl; values = rw (high-place e) refl; number = refl }) (λ n. refl) area
-      go false e = record { timer = refl; reply = refl; area = refl; kept = k }
+  high-timed : u .config .wide ≡ true → Timed u (call.Read (u .config .tcnt + 1)) false
+  unfolding asks
+  high-timed e = record { absent = rw (high-place e) refl; wrong = refl; halted = refl; tests = rw (high-place e) refl }
+
+  at-wide : u .config .wide ≡ true → {area : List ℕ} {x : Held} {p : Reply} → Serves (answered ticks u (call.Read (u .config .tcnt + 1)) cycle area) x p area → Serves (countHigh u cycle area) x p area
+  at-wide w {area} {x} {p} s = subst (λ (b : Bool). Serves (cond b (answered ticks u (call.Read (u .config .tcnt + 1)) cycle area) (turned 4 u area)) x p area) (sym w) s
+
+  pub high-serves : u .config .wide ≡ true → refusing false (u .clock .latest .0) (h .next) cycle ≡ 0 → (area : List ℕ) → Serves (countHigh u cycle area) g (replied 0 1 (u .registers .temp) 0 (h .next) (h .flags)) area
+  unfolding asks works says readValue readTimer
+  high-serves w e area = at-wide w (plain-serves h (call.Read (u .config .tcnt + 1)) cycle {u = u} {a = answer.Value (u .registers .temp)} k (refusal-is h (call.Read (u .config .tcnt + 1)) cycle k (high-timed w) ∙ e)
+      (record { advances = refl; syncs = rw (high-place w) refl; timer = rw (high-place w) refl; log = refl; values = rw (high-place w) refl; number = refl }) refl (kept-latest h cycle k) area)
+
+  pub high-turned : u .config .wide ≡ true → (n : ℕ) → n ≡ refusing false (u .clock .latest .0) (h .next) cycle → eqb n 0 ≡ false → (area : List ℕ) → Serves (countHigh u cycle area) h (replied n 5 0 0 0 0) area
+  high-turned w n e z area = at-wide w (refused-serves h cycle k (call.Read (u .config .tcnt + 1)) n (high-timed w) e z area)
+
+  pub high-narrow : u .config .wide ≡ false → (area : List ℕ) → Serves (countHigh u cycle area) h (replied 4 5 0 0 0 0) area
+  high-narrow w area = subst (λ (b : Bool). Serves (cond b (answered ticks u (call.Read (u .config .tcnt + 1)) cycle area) (turned 4 u area)) h (replied 4 5 0 0 0 0) area) (sym w) (record { timer = refl; reply = refl; area = refl; kept = k })

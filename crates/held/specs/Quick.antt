@@ -2,7 +2,6 @@
 use Prim.Native.Nat.{ℕ, _+_, _-_, _/_, _%_, _≤_, _<_, _^_}
 use mathlib.Core.Bool.{Bool, true, false, cond, not, _&&_}
 use mathlib.Core.Path.{_≡_}
-use lib.Bits.{bitAnd}
 use lib.Dec.{eqb, leb}
 use Rattle.time.specs.declared.clock.Clock.{Clock}
 use Rattle.time.specs.Clock.{clockAt}
@@ -10,8 +9,9 @@ use Rattle.time.specs.Units.{lateAt}
 use Rattle.wave.specs.declared.count.Counter.{Counter}
 use Rattle.wave.specs.Count.{counted, Turns}
 use Rattle.wave.specs.Distance.{moved}
+use Rattle.counter.specs.Halts.{latestTo}
+use Rattle.held.specs.declared.state.Held.{Held}
 use Rattle.held.specs.declared.quick.Answered.{Answered}
-use Rattle.held.specs.declared.quick.Cleared.{Cleared}
 use Rattle.held.specs.declared.quick.Stilled.{Stilled}
 use Rattle.held.specs.declared.quick.Counted.{Counted}
 use Rattle.held.specs.Held.{never}
@@ -20,6 +20,13 @@ use Rattle.held.specs.Reply.{replied}
 -- 2 and 3 for the cycle, 6 where the call may not pass the next event; 0 for none
 unfoldable pub refusing : Bool → ℕ → ℕ → ℕ → ℕ
 refusing tested latest next cycle = cond (not (eqb (lateAt latest cycle) 0)) (lateAt latest cycle) (cond (tested && leb next cycle) 6 0)
+
+-- a held timer after a cycle is accepted, which becomes the latest, or refused, which changes nothing
+unfoldable pub acceptedIn : Bool → ℕ → Held → Held
+acceptedIn tested cycle h =
+    cond (eqb (refusing tested (h .timer .clock .latest .0) (h .next) cycle) 0)
+    (record { timer = latestTo (h .timer) cycle; scene = h .scene; next = h .next; top = h .top; flags = h .flags; shift = h .shift; down = h .down })
+    h
 
 -- a call that yields a value and changes the latest cycle alone
 unfoldable pub answering : Bool → ℕ → ℕ → ℕ → ℕ → ℕ → ℕ → Answered
@@ -31,22 +38,6 @@ answering tested what value next flags latest cycle =
 -- the next event
 unfoldable pub nexting : ℕ → ℕ → ℕ → ℕ → Answered
 nexting next flags latest cycle = cond (eqb next never) (answering true 3 0 next flags latest cycle) (answering true 2 next next flags latest cycle)
-
--- a byte that no tick below the next event changes: TIFR
-abbrev pub flagging : ℕ → ℕ → ℕ → ℕ → ℕ → Answered
-flagging byte next flags latest cycle = answering true 1 byte next flags latest cycle
-
--- ones written to TIFR
-unfoldable pub clearing : ℕ → ℕ → ℕ → ℕ → ℕ → ℕ → Cleared
-clearing tifr next flags latest ones cycle =
-    cond (eqb (refusing true latest next cycle) 0)
-    (record { tifr = bitAnd tifr (255 - ones); latest = cycle; reply = replied 0 0 0 0 next flags })
-    (record { tifr = tifr; latest = latest; reply = replied (refusing true latest next cycle) 5 0 0 0 0 })
-
--- the high byte of TCNTn, which is TEMP; 4 where the timer is narrow
-unfoldable pub temping : Bool → ℕ → ℕ → ℕ → ℕ → ℕ → Answered
-temping wide temp next flags latest cycle =
-    cond wide (answering false 1 temp next flags latest cycle) (record { latest = latest; reply = replied 4 5 0 0 0 0 })
 
 -- the ticks from the sync cycle to another
 unfoldable pub ticksTo : Clock → ℕ → ℕ → ℕ
@@ -73,18 +64,11 @@ pub record Passing (c : Counter) (k : Clock) (shift : ℕ) (down : Bool) (cycle 
   pub low : c .count < 65536
   pub turns : Turns (c .direction)
 
--- the low byte of TCNTn
-unfoldable pub counting : Counter → Clock → Bool → ℕ → ℕ → Bool → ℕ → ℕ → ℕ → Counted
-counting c k wide temp shift down next flags cycle =
-    cond (eqb (refusing true (k .latest .0) next cycle) 0)
-    (record {
-      counter = stilled c k shift down cycle .counter;
-      clock = stilled c k shift down cycle .clock;
-      temp = cond wide (stilled c k shift down cycle .counter .count / 256 % 256) temp;
-      reply = replied 0 1 (stilled c k shift down cycle .counter .count % 256) 0 next flags;
-    })
-    (record { counter = c; clock = k; temp = temp; reply = replied (refusing true (k .latest .0) next cycle) 5 0 0 0 0 })
-
--- it asks the same where it is not refused
-abbrev pub Asks : Counter → Clock → ℕ → Bool → ℕ → ℕ → Type 0
-Asks c k shift down next cycle = refusing true (k .latest .0) next cycle ≡ 0 → Passing c k shift down cycle
+-- the low byte of TCNTn, with what reading it leaves
+unfoldable pub counting : Counter → Clock → Bool → ℕ → ℕ → Bool → ℕ → Counted
+counting c k wide temp shift down cycle = record {
+  counter = stilled c k shift down cycle .counter;
+  clock = stilled c k shift down cycle .clock;
+  temp = cond wide (stilled c k shift down cycle .counter .count / 256 % 256) temp;
+  byte = stilled c k shift down cycle .counter .count % 256;
+}

@@ -7,9 +7,10 @@ use time::units::Cycle;
 use wave::count::Counter;
 use wave::count::counted;
 use wave::distance::moved;
-ghost use Prim.Native.Nat.{_<_};
+ghost use Prim.Native.Nat.{_<_, _-_};
+ghost use lib.Bits.{bitAnd};
 ghost use mathlib.Core.Path.{_≡_};
-ghost use Rattle.held.specs.Quick.{refusing, answering, nexting, flagging, clearing, temping, stilled, counting, Passing, Asks};
+ghost use Rattle.held.specs.Quick.{refusing, answering, nexting, stilled, counting, Passing};
 
 // 2 or 3 where the cycle is too large or too early, 6 where the call may not pass the next event, else 0.
 pub fn refusing(tested: bool, latest: u64, next: u64, cycle: u64) -> u8
@@ -68,52 +69,11 @@ pub fn nexting(next: u64, flags: u8, latest: u64, cycle: u64) -> Answered
     }
 }
 
-// A byte that no tick below the next event changes.
-pub fn flagging(byte: u8, next: u64, flags: u8, latest: u64, cycle: u64) -> Answered
-    ensures { λ r. ⌜ r ≡ flagging byte next flags latest cycle ⌝ }
+// TIFR after ones are written to it.
+pub fn clearing(tifr: u8, ones: u8) -> u8
+    ensures { λ r. ⌜ r ≡ bitAnd tifr (255 - ones) ⌝ }
 {
-    answering(true, 1, byte as u64, next, flags, latest, cycle)
-}
-
-// TIFR and the latest cycle after a write of TIFR, and the reply.
-pub struct Cleared {
-    pub tifr: u8,
-    pub latest: u64,
-    pub reply: Reply,
-}
-
-// Ones written to TIFR clear its bits.
-pub fn clearing(tifr: u8, next: u64, flags: u8, latest: u64, ones: u8, cycle: u64) -> Cleared
-    ensures { λ r. ⌜ r ≡ clearing tifr next flags latest ones cycle ⌝ }
-{
-    let n = refusing(true, latest, next, cycle);
-    if n != 0 {
-        Cleared {
-            tifr,
-            latest,
-            reply: Reply::new(n, 5, 0, 0, 0, 0),
-        }
-    } else {
-        Cleared {
-            tifr: tifr & (255 - ones),
-            latest: cycle,
-            reply: Reply::new(0, 0, 0, 0, next, flags),
-        }
-    }
-}
-
-// The high byte of TCNTn, which is TEMP: no event stops it. A narrow timer has no such register.
-pub fn temping(wide: bool, temp: u8, next: u64, flags: u8, latest: u64, cycle: u64) -> Answered
-    ensures { λ r. ⌜ r ≡ temping wide temp next flags latest cycle ⌝ }
-{
-    if wide {
-        answering(false, 1, temp as u64, next, flags, latest, cycle)
-    } else {
-        Answered {
-            latest,
-            reply: Reply::new(4, 5, 0, 0, 0, 0),
-        }
-    }
+    tifr & (255 - ones)
 }
 
 // The counter and the clock after time that passed below the next event.
@@ -147,12 +107,12 @@ pub fn stilling(counter: Counter, clock: Clock, shift: u8, down: bool, cycle: u6
     }
 }
 
-// The counter, the clock and TEMP after the count is read, and the reply.
+// The counter, the clock and TEMP after the count's low byte is read, and the byte.
 pub struct Counted {
     pub counter: Counter,
     pub clock: Clock,
     pub temp: u8,
-    pub reply: Reply,
+    pub byte: u8,
 }
 
 // The low byte of TCNTn: time passes up to the cycle, and in a wide timer the high byte goes to TEMP.
@@ -163,41 +123,29 @@ pub fn counting(
     temp: u8,
     shift: u8,
     down: bool,
-    next: u64,
-    flags: u8,
     cycle: u64,
 ) -> Counted
-    requires { ⌜ Asks counter clock shift down next cycle ⌝ }
-    ensures { λ r. ⌜ r ≡ counting counter clock wide temp shift down next flags cycle ⌝ }
+    requires { ⌜ Passing counter clock shift down cycle ⌝ }
+    ensures { λ r. ⌜ r ≡ counting counter clock wide temp shift down cycle ⌝ }
 {
-    let latest = clock.latest;
-    let n = refusing(true, latest.0, next, cycle);
-    if n != 0 {
-        return Counted {
-            counter,
-            clock,
-            temp,
-            reply: Reply::new(n, 5, 0, 0, 0, 0),
-        };
-    }
     let s = stilling(counter, clock, shift, down, cycle);
     let moved = s.counter;
     let now = s.clock;
     let count = moved.count;
-    let reply = Reply::new(0, 1, (count % 256) as u64, 0, next, flags);
+    let byte = (count % 256) as u8;
     if wide {
         Counted {
             counter: moved,
             clock: now,
             temp: (count / 256 % 256) as u8,
-            reply,
+            byte,
         }
     } else {
         Counted {
             counter: moved,
             clock: now,
             temp,
-            reply,
+            byte,
         }
     }
 }

@@ -35,6 +35,20 @@ impl Reply {
         }
     }
 
+    // Yields the reply of a call that is refused.
+    pub fn turned(number: u8) -> Reply
+        ensures { λ r. ⌜ r ≡ replied number 5 0 0 0 0 ⌝ }
+    {
+        Reply::new(number, 5, 0, 0, 0, 0)
+    }
+
+    // Yields the reply of a call that yields a byte and writes no record.
+    pub fn byte(value: u8, next: u64, flags: u8) -> Reply
+        ensures { λ r. ⌜ r ≡ replied 0 1 value 0 next flags ⌝ }
+    {
+        Reply::new(0, 1, value as u64, 0, next, flags)
+    }
+
     // Yields an outcome's answer in numbers, of an accepted call with the next event.
     pub fn of(o: Outcome, next: u64, flags: u8) -> Reply
         ensures { λ r. ⌜ r ≡ replied (numberOf (o .answer)) (whatOf (valuesOf (o .answer))) (valueOf (valuesOf (o .answer))) (o .written) (beside (valuesOf (o .answer)) next) (beside (valuesOf (o .answer)) flags) ⌝ }

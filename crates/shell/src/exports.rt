@@ -12,11 +12,9 @@ use held::calls::advance;
 use held::calls::holding;
 use held::quick::clearing;
 use held::quick::counting;
-use held::quick::flagging;
 use held::quick::nexting;
 use held::quick::refusing;
 use held::quick::stilling;
-use held::quick::temping;
 use held::reply::Reply;
 use held::rise::rising;
 use held::rise::strikes;
@@ -40,7 +38,7 @@ ghost use Rattle.passage.specs.Passage.{ticks};
 ghost use Rattle.timer.specs.Calls.{answered};
 ghost use Rattle.timer.specs.declared.calls.Call.{Call};
 ghost use Rattle.held.specs.Held.{Kept};
-ghost use Rattle.held.specs.Quick.{refusing};
+ghost use Rattle.held.specs.Quick.{refusing, acceptedIn};
 ghost use Rattle.held.specs.Reply.{Serves, Served, countLow};
 ghost use Rattle.held.specs.Rise.{strikesOf};
 ghost use Rattle.held.specs.Write.{wayOf, Waits, Latches, Stores};
@@ -292,21 +290,39 @@ pub extern "C" fn paddlemauve_next(t: &mut Held, cycle: u64) -> Reply
     a.reply
 }
 
+// Makes a cycle the latest, or yields the refusal's number. It tests here, not by value, so that an accepted call jumps over the refusals.
+fn accept(t: &mut Held, tested: bool, cycle: u64) -> u8
+    requires { ⌜ Kept (now t) ⌝ }
+    ensures { λ r. ⌜ (r ≡ refusing tested (now (t .entry) .timer .clock .latest .0) (now (t .entry) .next) cycle) × (now (t .exit) ≡ acceptedIn tested cycle (now (t .entry))) ⌝ }
+{
+    if 0x3fff_ffff_ffff_ffff < cycle {
+        return 2;
+    } else {
+        if cycle < t.timer.clock.latest.0 {
+            return 3;
+        } else {
+            if tested & (t.next <= cycle) {
+                return 6;
+            } else {
+                t.timer.clock.latest.0 = cycle;
+                return 0;
+            }
+        }
+    }
+}
+
 // Yields TIFR.
 #[no_mangle]
 pub extern "C" fn paddlemauve_tifr(t: &mut Held, cycle: u64) -> Reply
     requires { ⌜ Kept (now t) ⌝ }
     ensures { λ r. ⌜ Served (now (t .entry) .timer) Call.Tifr cycle (now (t .exit)) r ⌝ }
 {
-    let a = flagging(
-        t.timer.flags.tifr,
-        t.next,
-        t.flags,
-        t.timer.clock.latest.0,
-        cycle,
-    );
-    t.timer.clock.latest.0 = a.latest;
-    a.reply
+    let n = accept(t, true, cycle);
+    if n == 0 {
+        return Reply::byte(t.timer.flags.tifr, t.next, t.flags);
+    } else {
+        return Reply::turned(n);
+    }
 }
 
 // Ones written to TIFR clear its bits.
@@ -315,17 +331,13 @@ pub extern "C" fn paddlemauve_clear(t: &mut Held, ones: u8, cycle: u64) -> Reply
     requires { ⌜ Kept (now t) ⌝ }
     ensures { λ r. ⌜ Served (now (t .entry) .timer) (Call.WriteTifr ones) cycle (now (t .exit)) r ⌝ }
 {
-    let a = clearing(
-        t.timer.flags.tifr,
-        t.next,
-        t.flags,
-        t.timer.clock.latest.0,
-        ones,
-        cycle,
-    );
-    t.timer.flags.tifr = a.tifr;
-    t.timer.clock.latest.0 = a.latest;
-    a.reply
+    let n = accept(t, true, cycle);
+    if n == 0 {
+        t.timer.flags.tifr = clearing(t.timer.flags.tifr, ones);
+        return Reply::new(0, 0, 0, 0, t.next, t.flags);
+    } else {
+        return Reply::turned(n);
+    }
 }
 
 // Yields the low byte of TCNTn as a program reads it: it fills TEMP in a wide timer.
@@ -334,21 +346,24 @@ pub extern "C" fn paddlemauve_count_low(t: &mut Held, cycle: u64) -> Reply
     requires { ⌜ Kept (now t) ⌝ }
     ensures { λ r. ⌜ Served (now (t .entry) .timer) (countLow (now (t .entry) .timer)) cycle (now (t .exit)) r ⌝ }
 {
-    let a = counting(
-        t.timer.counter,
-        t.timer.clock,
-        t.timer.config.wide,
-        t.timer.registers.temp,
-        t.shift,
-        t.down,
-        t.next,
-        t.flags,
-        cycle,
-    );
-    t.timer.counter = a.counter;
-    t.timer.clock = a.clock;
-    t.timer.registers.temp = a.temp;
-    a.reply
+    let n = accept(t, true, cycle);
+    if n == 0 {
+        let a = counting(
+            t.timer.counter,
+            t.timer.clock,
+            t.timer.config.wide,
+            t.timer.registers.temp,
+            t.shift,
+            t.down,
+            cycle,
+        );
+        t.timer.counter = a.counter;
+        t.timer.clock = a.clock;
+        t.timer.registers.temp = a.temp;
+        return Reply::byte(a.byte, t.next, t.flags);
+    } else {
+        return Reply::turned(n);
+    }
 }
 
 // Yields the high byte of TCNTn, which is TEMP; refused with 4 where the timer is narrow.
@@ -357,14 +372,14 @@ pub extern "C" fn paddlemauve_count_high(t: &mut Held, cycle: u64) -> Reply
     requires { ⌜ Kept (now t) ⌝ }
     ensures { λ r. ⌜ High (now (t .entry) .timer) cycle (now (t .exit)) r ⌝ }
 {
-    let a = temping(
-        t.timer.config.wide,
-        t.timer.registers.temp,
-        t.next,
-        t.flags,
-        t.timer.clock.latest.0,
-        cycle,
-    );
-    t.timer.clock.latest.0 = a.latest;
-    a.reply
+    if t.timer.config.wide {
+        let n = accept(t, false, cycle);
+        if n == 0 {
+            return Reply::byte(t.timer.registers.temp, t.next, t.flags);
+        } else {
+            return Reply::turned(n);
+        }
+    } else {
+        return Reply::turned(4);
+    }
 }
