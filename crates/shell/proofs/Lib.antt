@@ -1,4 +1,5 @@
 pub mod Branches
+pub mod Taken
 pub mod Cells
 pub mod Histories
 pub mod Past

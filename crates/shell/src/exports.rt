@@ -24,10 +24,10 @@ use held::write::buffering;
 use held::write::way_of;
 use tick::distance::Distance;
 use time::units::Cycle;
-ghost use Prim.Native.Nat.{_≤_};
+ghost use Prim.Native.Nat.{_-_, _≤_, _^_};
 ghost use mathlib.Core.Bool.{true, false};
 ghost use mathlib.Core.Path.{_≡_};
-ghost use lib.Dec.{eqb};
+ghost use lib.Dec.{eqb, ltb};
 ghost use lib.ListN.{length};
 ghost use Rattle.answers.specs.Answers.{Tells};
 ghost use Rattle.counter.specs.Fresh.{startedOf};
@@ -290,12 +290,19 @@ pub extern "C" fn paddlemauve_next(t: &mut Held, cycle: u64) -> Reply
     a.reply
 }
 
+// Is a cycle over the last that a call may have, 2^62 - 1.
+fn too_large(cycle: u64) -> bool
+    ensures { λ r. ⌜ r ≡ ltb (2 ^ 62 - 1) cycle ⌝ }
+{
+    0x3fff_ffff_ffff_ffff < cycle
+}
+
 // Makes a cycle the latest, or yields the refusal's number. It tests here, not by value, so that an accepted call jumps over the refusals.
 fn accept(t: &mut Held, tested: bool, cycle: u64) -> u8
     requires { ⌜ Kept (now t) ⌝ }
     ensures { λ r. ⌜ (r ≡ refusing tested (now (t .entry) .timer .clock .latest .0) (now (t .entry) .next) cycle) × (now (t .exit) ≡ acceptedIn tested cycle (now (t .entry))) ⌝ }
 {
-    if 0x3fff_ffff_ffff_ffff < cycle {
+    if too_large(cycle) {
         return 2;
     } else {
         if cycle < t.timer.clock.latest.0 {
