@@ -134,15 +134,17 @@ impl Timer {
     #[inline]
     pub fn read(&mut self, address: u16, cycle: u64) -> Result<u8, Refusal> {
         let raw::Config { tcnt, wide, .. } = self.raw.timer.config;
-        if address == tcnt {
-            // SAFETY: as of call.
-            return byte_of(&unsafe { raw::paddlemauve_count_low(&mut self.raw, cycle) });
-        }
-        if wide && address.wrapping_sub(tcnt) == 1 {
-            // SAFETY: as of call.
-            return byte_of(&unsafe { raw::paddlemauve_count_high(&mut self.raw, cycle) });
-        }
-        self.byte(Call::Read(address), cycle)
+        // SAFETY: as of call.
+        let reply = unsafe {
+            if address == tcnt {
+                raw::paddlemauve_count_low(&mut self.raw, cycle)
+            } else if wide && address == tcnt.wrapping_add(1) {
+                raw::paddlemauve_count_high(&mut self.raw, cycle)
+            } else {
+                raw::paddlemauve_call(&mut self.raw, Call::Read(address).asked(cycle), raw::Area::of(&mut []))
+            }
+        };
+        byte_of(&reply)
     }
 
     /// A register's byte; TEMP is left as it is.
