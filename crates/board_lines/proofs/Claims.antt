@@ -6,7 +6,7 @@ use mathlib.Core.List.{List}
 use mathlib.Core.Path.{_≡_}
 use lib.Dec.{eqb, ltb}
 use lib.ListN.{length, length-replicate}
-use Rattle.figures.specs.Figures.{codes, text}
+use Rattle.figures.specs.Figures.{codes}
 use Rattle.words.specs.Words.{skipOf, findOf, placeOf}
 use Rattle.words.specs.Numbers.{between}
 use Rattle.words.specs.declared.Cursor.{Cursor}

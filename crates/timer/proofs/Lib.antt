@@ -8,3 +8,4 @@ pub mod Held
 pub mod Progress
 pub mod Origin
 pub mod Readings
+pub mod Areas

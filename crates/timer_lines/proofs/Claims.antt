@@ -13,6 +13,7 @@ use Rattle.words.proofs.Numerals.{next-most}
 use Rattle.page.proofs.Lengths.{Upto, said, numbered, either, unreadable-short}
 use Rattle.room.specs.Room.{filled, changedAt}
 use Rattle.counter.specs.Fresh.{startedOf}
+use Rattle.timer.proofs.Areas.{answered-area}
 use Rattle.answers.specs.declared.Outcome.{Outcome}
 use Rattle.display.proofs.Claims.{short-answer, short-state, short-distance}
 use Rattle.script.specs.declared.configs.Given.{Given}
@@ -28,7 +29,6 @@ use Rattle.timer_lines.specs.Made.{Configured, madeOf}
 use Rattle.timer_lines.specs.Named.{timerLine}
 use Rattle.timer_lines.specs.Shown.{unlessNone, movedOf, shiftLine, stateLine}
 use Rattle.timer_lines.specs.Claims.{Short, ShortConfig}
-use Rattle.timer_lines.proofs.Lengths.{answered-area}
 
 -- ---- calls
 

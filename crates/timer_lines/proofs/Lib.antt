@@ -3,5 +3,4 @@ pub mod Asking
 pub mod Telling
 pub mod Showing
 pub mod Making
-pub mod Lengths
 pub mod Claims

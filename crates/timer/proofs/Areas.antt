@@ -1,4 +1,4 @@
--- A call leaves as many bytes as its area had.
+-- A call leaves its area as long as it was.
 use Prim.Native.Nat.{ℕ, zero, suc, _≤_}
 use native.Mathlib.Omega.{arith}
 use mathlib.Core.Bool.{Bool, true}
@@ -35,7 +35,8 @@ advanced-fits t cycle room = leb-true _ room (ticks-fit (settingOf t) (prescaler
 in-place : (bytes area : List ℕ) → length bytes ≤ length area → length (bytes ++ drop (length bytes) area) ≡ length area
 in-place bytes area h = simp (length-append, length-drop) (omega arith)
 
-abbrev Whole : List ℕ → Told → Type 0
+-- what a call tells, with an area as long as the one given
+abbrev pub Whole : List ℕ → Told → Type 0
 Whole area x = length (x .area) ≡ length area
 
 worked-whole : (x : Passed) (t : Timer) (c : Call) (cycle : ℕ) (area : List ℕ) → Whole area (worked x t c cycle area)
@@ -44,7 +45,7 @@ worked-whole x t c cycle area =
     let bytes : List ℕ = x .bytes ++ recordsOf cycle (works (x .timer) c cycle .log) in
     cond-case (Whole area) (leb (length bytes) (length area)) (λ e. in-place bytes area (leb-true (length bytes) (length area) e)) (λ e. refl)
 
-pub answered-area : (t : Timer) (c : Call) (cycle : ℕ) (area : List ℕ) → length (answered ticks t c cycle area .area) ≡ length area
+pub answered-area : (t : Timer) (c : Call) (cycle : ℕ) (area : List ℕ) → Whole area (answered ticks t c cycle area)
 unfolding answered performed moved
 answered-area t c cycle area =
     cond-all (Whole area) (eqb (refusalOf t c cycle) 0)
