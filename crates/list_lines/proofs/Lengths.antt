@@ -12,7 +12,7 @@ use Rattle.counter.specs.declared.state.Timer.{Timer}
 use Rattle.answers.specs.Answers.{Told}
 use Rattle.timer.specs.Calls.{answered}
 use Rattle.timer.specs.declared.calls.Call.the-variants as call
-use Rattle.timer_lines.proofs.Lengths.{answered-area}
+use Rattle.timer.proofs.Areas.{answered-area}
 use Rattle.items.specs.Items.{itemsIn}
 use Rattle.items.specs.declared.Item.{Item}
 use Rattle.writes.specs.Writes.{Listed, stopping, wrote, worked, listed, listing}
