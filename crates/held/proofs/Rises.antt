@@ -47,7 +47,7 @@ use Rattle.scene.specs.Scene.{Apart, sceneOf}
 use Rattle.scene.proofs.Flags.{apart-of}
 use Rattle.strike.specs.declared.Rise.{Rise}
 use Rattle.strike.proofs.Strikes.{known-fits}
-use Rattle.strike.specs.Strike.{tickIn, runIn, Known, Fit, Rose, Told}
+use Rattle.strike.specs.Strike.{tickIn, runIn, Known, Fit, Rose, EveryRun}
 use Rattle.held.specs.declared.reply.Reply.{Reply}
 use Rattle.held.specs.declared.rise.Risen.{Risen}
 use Rattle.held.specs.declared.state.Held.{Held}
@@ -481,7 +481,7 @@ module _ {h : Held} {cycle room : ℕ} (a : Asked h cycle room) where
   pub rising-asked : (Fit (h .scene) (h .shift) (startOf h) room) × (h .next ≤ cycle) × (cycle < 2 ^ 63) × (0 + 110 ≤ room)
   rising-asked = (start-fits, a .due, (let l = a .below in omega arith), (let l = a .bytes in omega arith))
 
-  pub rose : {b : Rise} {area after : List ℕ} → Told (h .scene) (h .shift) (startOf h) (λ s p d o first. Rose s p d o first (startOf h) cycle area b after) → Rose s p dir odo first (startOf h) cycle area b after
+  pub rose : {b : Rise} {area after : List ℕ} → EveryRun (h .scene) (h .shift) (startOf h) (λ s p d o first. Rose s p d o first (startOf h) cycle area b after) → Rose s p dir odo first (startOf h) cycle area b after
   rose q = q s p dir odo first (a .kept .scene) power start-known
 
   shl-is : (1 * 2 ^ h .shift) % 2 ^ 64 ≡ 2 ^ h .shift

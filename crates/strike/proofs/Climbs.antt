@@ -22,7 +22,7 @@ use Rattle.passage.proofs.Loops.{Going, begins, turned, wrote, halted}
 use Rattle.scene.specs.declared.state.Scene.{Scene}
 use Rattle.strike.specs.declared.Rise.{Rise}
 use Rattle.strike.specs.declared.Aside.{Aside}
-use Rattle.strike.specs.Strike.{tickIn, runIn, eventIn, asideIn, Known, Fit, Struck, Lone, Climbed, Rose, Told}
+use Rattle.strike.specs.Strike.{tickIn, runIn, eventIn, asideIn, Known, Fit, Struck, Lone, Climbed, Rose, EveryRun}
 use Rattle.strike.proofs.Strikes.{step-some}
 
 -- ---- the next event's tick is due
@@ -163,7 +163,7 @@ module _ {s : Setting} {p : Prescaler} {d : ℤ} {o first : ℕ} {a : Rise} {cyc
 -- ---- the same of every run that the numbers tell
 abbrev pub AllRise : Scene → ℕ → Rise → ℕ → List ℕ → Rise → List ℕ → Type 0
 AllRise c shift a cycle before r area =
-    Told c shift a (λ s p d o first. Ready s p (runIn p d o first a) (ticksAt p cycle) (length before) → Rises s p d o first a cycle before r area)
+    EveryRun c shift a (λ s p d o first. Ready s p (runIn p d o first a) (ticksAt p cycle) (length before) → Rises s p d o first a cycle before r area)
 
 pub divides : (p : Prescaler) (shift : ℕ) → p .divisor ≡ 2 ^ shift → 0 < p .divisor
 divides p shift e = rw e (step-some shift)
@@ -178,23 +178,23 @@ module _ {c : Scene} (shift : ℕ) {a : Rise} {cycle : ℕ} {before : List ℕ} 
   all-begin = λ s p d o first es ed k y. rises-begin k y
 
   module _ {r : Rise} {area : List ℕ} (i : AllRise c shift a cycle before r area) where
-    pub all-struck : {r₁ : Rise} {area₁ : List ℕ} → r .next ≤ cycle → 110 ≤ length area - r .to → Told c shift r (λ s p d o first. Struck s p d o first r area r₁ area₁) → AllRise c shift a cycle before r₁ area₁
+    pub all-struck : {r₁ : Rise} {area₁ : List ℕ} → r .next ≤ cycle → 110 ≤ length area - r .to → EveryRun c shift r (λ s p d o first. Struck s p d o first r area r₁ area₁) → AllRise c shift a cycle before r₁ area₁
     all-struck n h w = λ s p d o first es ed k y. let j = i s p d o first es ed k y in rises-struck j (divides p shift ed) n h (w s p d o first es ed (j .known))
 
     module _ {x : Aside} {done : Bool} {area₁ : List ℕ} (n : r .next ≤ cycle)
-        (w : Told c shift r (λ s p d o first. Made s p (runIn p d o first r) (asideIn p d o first x) × Known s p d o first (x .after)))
+        (w : EveryRun c shift r (λ s p d o first. Made s p (runIn p d o first r) (asideIn p d o first x) × Known s p d o first (x .after)))
         (e : done ≡ leb (r .to + x .log .len) (length area))
         (v : area₁ ≡ cond done (sets area (r .to) (take (x .log .len) (x .log .bytes))) area) where
       pub all-wrote : done ≡ true → AllRise c shift a cycle before (placed (x .after) (r .to + x .log .len)) area₁
       all-wrote h = λ s p d o first es ed k y. let j = i s p d o first es ed k y in rises-wrote j (divides p shift ed) n (w s p d o first es ed (j .known)) e v h
 
-      pub all-stopped : done ≡ false → Told c shift a (λ s p d o first. Ready s p (runIn p d o first a) (ticksAt p cycle) (length before) → Rose s p d o first a cycle before r area₁)
+      pub all-stopped : done ≡ false → EveryRun c shift a (λ s p d o first. Ready s p (runIn p d o first a) (ticksAt p cycle) (length before) → Rose s p d o first a cycle before r area₁)
       all-stopped h = λ s p d o first es ed k y. let j = i s p d o first es ed k y in rose-stopped j (divides p shift ed) n (w s p d o first es ed (j .known)) e v h
 
-    pub all-reached : cycle < r .next → Told c shift a (λ s p d o first. Ready s p (runIn p d o first a) (ticksAt p cycle) (length before) → Rose s p d o first a cycle before r area)
+    pub all-reached : cycle < r .next → EveryRun c shift a (λ s p d o first. Ready s p (runIn p d o first a) (ticksAt p cycle) (length before) → Rose s p d o first a cycle before r area)
     all-reached n = λ s p d o first es ed k y. rose-reached (i s p d o first es ed k y) (divides p shift ed) n
 
-    pub all-climbed : Told c shift a (λ s p d o first. Ready s p (runIn p d o first a) (ticksAt p cycle) (length before) → Climbed s p d o first a (ticksAt p cycle) before r area)
+    pub all-climbed : EveryRun c shift a (λ s p d o first. Ready s p (runIn p d o first a) (ticksAt p cycle) (length before) → Climbed s p d o first a (ticksAt p cycle) before r area)
     all-climbed = λ s p d o first es ed k y. climbed (i s p d o first es ed k y) (divides p shift ed)
 
 -- ---- no turn yet, or the event that was next is struck, and alone where the run goes to its cycle
@@ -202,7 +202,7 @@ abbrev pub Turns : Scene → ℕ → Rise → ℕ → List ℕ → Rise → List
 Turns c shift a cycle before r area = ((r ≡ a) × (area ≡ before)) ⊎ ((a .next < r .next) × (cycle ≡ a .next → Lone c shift a before r area))
 
 module _ {c : Scene} {shift : ℕ} {a : Rise} {cycle : ℕ} {before : List ℕ} {r : Rise} {area : List ℕ} (t : Turns c shift a cycle before r area) where
-  pub turns-struck : {r₁ : Rise} {area₁ : List ℕ} → r .next ≤ cycle → r .next < r₁ .next → r₁ .to ≤ r .to + 110 → Told c shift r (λ s p d o first. Struck s p d o first r area r₁ area₁) → Turns c shift a cycle before r₁ area₁
+  pub turns-struck : {r₁ : Rise} {area₁ : List ℕ} → r .next ≤ cycle → r .next < r₁ .next → r₁ .to ≤ r .to + 110 → EveryRun c shift r (λ s p d o first. Struck s p d o first r area r₁ area₁) → Turns c shift a cycle before r₁ area₁
   turns-struck {r₁} {area₁} n l m w = ⊎-elim
       (λ e. let o : Lone c shift r area r₁ area₁ = record { later = l; most = m; struck = w } in
       let v : Lone c shift a before r₁ area₁ = rw (e .0, e .1) at o in
@@ -255,25 +255,25 @@ module _ {s : Setting} {p : Prescaler} {d : ℤ} {o first : ℕ} {a : Rise} {bef
       )
 
 pub all-made : {c : Scene} (shift : ℕ) {a : Rise} {before : List ℕ} {b : Rise} {area : List ℕ} → length before ≡ 110 → length area ≡ 110
-    → Told c shift (placed a 0) (λ s p d o first. Struck s p d o first (placed a 0) before b area)
-    → Told c shift a (λ s p d o first. Made s p (runIn p d o first a) (asideIn p d o first (record { after = b; log = record { bytes = area; len = b .to } })) × Known s p d o first b)
+    → EveryRun c shift (placed a 0) (λ s p d o first. Struck s p d o first (placed a 0) before b area)
+    → EveryRun c shift a (λ s p d o first. Made s p (runIn p d o first a) (asideIn p d o first (record { after = b; log = record { bytes = area; len = b .to } })) × Known s p d o first b)
 all-made shift n l w = λ s p d o first es ed k. made k (divides p shift ed) n l (w s p d o first es ed (known-placed 0 k))
 
 -- ---- rising: the first event, then the others
 module _ {c : Scene} (shift : ℕ) {a : Rise} {cycle : ℕ} {before : List ℕ} {b : Rise} {area : List ℕ} (n : a .next ≤ cycle) (h : cycle < 2 ^ 63) (t : a .to + 110 ≤ length before)
-    (w : Told c shift a (λ s p d o first. Struck s p d o first a before b area)) where
-  all-first : Told c shift a (λ s p d o first. Rises s p d o first a cycle before b area)
+    (w : EveryRun c shift a (λ s p d o first. Struck s p d o first a before b area)) where
+  all-first : EveryRun c shift a (λ s p d o first. Rises s p d o first a cycle before b area)
   all-first = λ s p d o first es ed k.
       let y = ready-of k (divides p shift ed) {room = length before} n h (omega arith) in
       rises-struck (rises-begin k y) (divides p shift ed) n (omega arith) (w s p d o first es ed k)
 
-  pub one-rose : cycle < b .next → Told c shift a (λ s p d o first. Rose s p d o first a cycle before b area)
+  pub one-rose : cycle < b .next → EveryRun c shift a (λ s p d o first. Rose s p d o first a cycle before b area)
   one-rose m = λ s p d o first es ed k. rose-reached (all-first s p d o first es ed k) (divides p shift ed) m
 
   pub all-rose : {r₁ r₂ : Rise} {area₁ area₂ : List ℕ} → length area₁ ≡ length area
-      → Told c shift b (λ s p d o first. Ready s p (runIn p d o first b) (ticksAt p cycle) (length area) → Climbed s p d o first b (ticksAt p cycle) area r₁ area₁)
-      → Told c shift r₁ (λ s p d o first. Ready s p (runIn p d o first r₁) (ticksAt p cycle) (length area₁) → Rose s p d o first r₁ cycle area₁ r₂ area₂)
-      → Told c shift a (λ s p d o first. Rose s p d o first a cycle before r₂ area₂)
+      → EveryRun c shift b (λ s p d o first. Ready s p (runIn p d o first b) (ticksAt p cycle) (length area) → Climbed s p d o first b (ticksAt p cycle) area r₁ area₁)
+      → EveryRun c shift r₁ (λ s p d o first. Ready s p (runIn p d o first r₁) (ticksAt p cycle) (length area₁) → Rose s p d o first r₁ cycle area₁ r₂ area₂)
+      → EveryRun c shift a (λ s p d o first. Rose s p d o first a cycle before r₂ area₂)
   all-rose l u v = λ s p d o first es ed k.
       let some = divides p shift ed in
       let i = all-first s p d o first es ed k in

@@ -34,7 +34,7 @@ use Rattle.scene.specs.declared.state.Scene.{Scene}
 use Rattle.scene.specs.Scene.{Rising, sceneOf, climbAt, afterAt, limitAt, raisedAt, toldOf, drivenOf, nearerOf}
 use Rattle.scene.specs.Laws.{topNow, upNow}
 use Rattle.strike.specs.declared.Rise.{Rise}
-use Rattle.strike.specs.Strike.{tickIn, runIn, nearIn, Known, Fit, Struck, Told}
+use Rattle.strike.specs.Strike.{tickIn, runIn, nearIn, Known, Fit, Struck, EveryRun}
 use Rattle.scene.proofs.Laws.{climb-is, limit-is, raised-is, still-is}
 use Rattle.strike.proofs.Rises.{later-ticks, later-aligned, no-fall, bottom-is, tick-rising}
 
@@ -309,7 +309,7 @@ module _ {c : Scene} {shift room : ℕ} {a : Rise} {count top : ℕ} {ocr : List
   pub way-fits : {gap₁ : ℕ} → gap₁ ≡ climbAt c count top ocr → (gap₁ + 1) * 2 ^ shift ≤ 67108864
   way-fits {gap₁} eg = let n = near-fits eg in let m = f .most in way-most (gap₁ + 1) (f .steps) (omega arith)
 
-pub all-strike : {c : Scene} (shift : ℕ) {a : Rise} {before : List ℕ} {b : Rise} {after : List ℕ} → Makes c shift a before b after → Told c shift a (λ s p d o first. Struck s p d o first a before b after)
+pub all-strike : {c : Scene} (shift : ℕ) {a : Rise} {before : List ℕ} {b : Rise} {after : List ℕ} → Makes c shift a before b after → EveryRun c shift a (λ s p d o first. Struck s p d o first a before b after)
 all-strike shift {a} {before} {b} {after} m = λ s p d o first es ed k. struck ed k (rw es at m)
 
 -- the rise that the code returns
@@ -335,7 +335,7 @@ module _ {c : Scene} (shift : ℕ) {a : Rise} {before : List ℕ} {count top gap
       → Drove c a before oc drives mid-to mid
       → (to ≡ mid-to + length (recordsOf (a .next) (toldOf c (a .flags) (bitOr (a .tifr) (a .flags))))) × (after ≡ sets mid mid-to (recordsOf (a .next) (toldOf c (a .flags) (bitOr (a .tifr) (a .flags))))) × (to ≤ mid-to + 50)
       → flags ≡ raisedAt c (count + gap₁) top ocr
-      → (Fit c shift (strikeOf shift a count gap₁ top ocr oc drives to flags) (length after)) × (a .next < strikeOf shift a count gap₁ top ocr oc drives to flags .next) × (to ≤ a .to + 110) × (Told c shift a (λ s p d o first. Struck s p d o first a before (strikeOf shift a count gap₁ top ocr oc drives to flags) after))
+      → (Fit c shift (strikeOf shift a count gap₁ top ocr oc drives to flags) (length after)) × (a .next < strikeOf shift a count gap₁ top ocr oc drives to flags .next) × (to ≤ a .to + 110) × (EveryRun c shift a (λ s p d o first. Struck s p d o first a before (strikeOf shift a count gap₁ top ocr oc drives to flags) after))
   strikes q ec l eg w t ef =
       let y = way-fits (q .0) ec l eg in
       let z : ((gap₁ + 1) * 2 ^ shift) % 18446744073709551616 ≡ (gap₁ + 1) * 2 ^ shift = omega arith in

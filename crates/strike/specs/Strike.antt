@@ -99,11 +99,11 @@ pub record Rose (s : Setting) (p : Prescaler) (d : ℤ) (o first : ℕ) (a : Ris
   pub known : Known s p d o first b
 
 -- what each function says of every run that its numbers tell: a scene is a setting's, and ticks come every 2^shift cycles
-abbrev pub Told : Scene → ℕ → Rise → (Setting → Prescaler → ℤ → ℕ → ℕ → Type 0) → Type 0
-Told c shift a Says = (s : Setting) (p : Prescaler) (d : ℤ) (o first : ℕ) → c ≡ sceneOf s → p .divisor ≡ 2 ^ shift → Known s p d o first a → Says s p d o first
+abbrev pub EveryRun : Scene → ℕ → Rise → (Setting → Prescaler → ℤ → ℕ → ℕ → Type 0) → Type 0
+EveryRun c shift a Says = (s : Setting) (p : Prescaler) (d : ℤ) (o first : ℕ) → c ≡ sceneOf s → p .divisor ≡ 2 ^ shift → Known s p d o first a → Says s p d o first
 
 -- a run to the next event's cycle, where its records fit, strikes that event alone
 pub record Lone (c : Scene) (shift : ℕ) (a : Rise) (before : List ℕ) (b : Rise) (after : List ℕ) : Type 0 where
   pub later : a .next < b .next
   pub most : b .to ≤ a .to + 110
-  pub struck : Told c shift a (λ s p d o first. Struck s p d o first a before b after)
+  pub struck : EveryRun c shift a (λ s p d o first. Struck s p d o first a before b after)
