@@ -3,3 +3,4 @@ pub mod Hearing
 pub mod Shelving
 pub mod Feeding
 pub mod Stepping
+pub mod Claims

@@ -3,3 +3,4 @@ pub mod Lines
 pub mod Named
 pub mod Shelved
 pub mod Steps
+pub mod Claims
