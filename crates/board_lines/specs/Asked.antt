@@ -1,6 +1,6 @@
 -- What a line asks of the board (docs/SCRIPT.md, "The board"): its words from left to right, by the name's place among the orders.
 use Prim.Native.Nat.{ℕ, _%_, _^_, _-_}
-use mathlib.Core.Bool.{Bool, cond}
+use mathlib.Core.Bool.{cond}
 use mathlib.Core.List.{List}
 use lib.Dec.{eqb, ltb}
 use lib.ListN.{length}
@@ -94,7 +94,3 @@ askedOf line at =
     let end = findOf line start 32 in
     let name = placeOf names (between line start end) in
     cond (eqb start (length line)) (nothingAsked 4) (cond (ltb name 14) (readOf line end name) (nothingAsked 1))
-
--- is something asked for
-abbrev pub isSome : Asked → Bool
-isSome q = ltb (q .name) 14

@@ -17,7 +17,7 @@ use words::place;
 use words::skip;
 ghost use Prim.Native.Nat.{_≤_};
 ghost use mathlib.Core.Path.{_≡_};
-ghost use Rattle.board_lines.specs.Asked.{argumentsOf, firstOf, secondOf, thirdOf, lastOf, idOf, orderOf, readOf, nothingAsked, askedOf, isSome};
+ghost use Rattle.board_lines.specs.Asked.{argumentsOf, firstOf, secondOf, thirdOf, lastOf, idOf, orderOf, readOf, nothingAsked, askedOf};
 
 // The place of `new` among the names, of `state`, and of none of them.
 pub const NEW: usize = 12;
@@ -178,12 +178,5 @@ impl Asked {
             return read(line, end, name);
         }
         Asked::nothing(UNKNOWN_COMMAND)
-    }
-
-    // Is something asked for.
-    pub fn is_some(self) -> bool
-        ensures { λ r. ⌜ r ≡ isSome self ⌝ }
-    {
-        self.name < NONE
     }
 }
