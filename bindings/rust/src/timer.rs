@@ -97,7 +97,9 @@ impl Timer {
         let reply = unsafe {
             match call {
                 Call::Advance => raw::paddlemauve_advance(&mut self.raw, cycle, raw::Area::of(area)),
-                Call::Write(address, value) => raw::paddlemauve_write(&mut self.raw, cycle, raw::Area::of(area), address, value),
+                Call::Write(address, value) => {
+                    raw::paddlemauve_write(&mut self.raw, cycle, raw::Area::of(area), address, value)
+                }
                 _ => raw::paddlemauve_call(&mut self.raw, call.asked(cycle), raw::Area::of(area)),
             }
         };
