@@ -4,3 +4,4 @@ pub mod Named
 pub mod Shelved
 pub mod Steps
 pub mod Claims
+pub mod Readings
