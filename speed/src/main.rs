@@ -1,11 +1,13 @@
 //! `speed`: the timer beside the Rust, one driver and one build for both. Nanoseconds by the clock; instructions by
 //! callgrind, as the difference of two runs: `speed run ROW SIDE STEPS`, `speed grow SELECT POWER STEPS` and
-//! `speed watch P TIMEOUTS STEPS`, `speed board ROW SIDE STEPS`. `speed watchdog` measures the watchdog alone, `speed board` the board.
+//! `speed watch P TIMEOUTS STEPS`, `speed board ROW SIDE STEPS`, `speed single CALL STEPS`. `speed watchdog` measures the watchdog alone, `speed board` the
+//! board, `speed single` each other call by itself.
 
 mod boards;
 mod callgrind;
 mod growth;
 mod sides;
+mod singles;
 mod table;
 mod watchdogs;
 mod work;
@@ -21,6 +23,7 @@ fn main() {
             growth::print();
             watchdogs::print();
             boards::print();
+            singles::print();
         }
         ["run", row, side, steps] => println!("{}", row_of(number(row) as usize, side, number(steps))),
         ["grow", select, power, steps] => {
@@ -32,6 +35,10 @@ fn main() {
         ["watchdog"] => watchdogs::print(),
         ["board", row, side, steps] => println!("{}", boards::run(row, side, number(steps)).unwrap_or_else(|| usage())),
         ["board"] => boards::print(),
+        ["single", place, steps] => {
+            println!("{}", singles::run(number(place) as usize, number(steps)).unwrap_or_else(|| usage()))
+        }
+        ["single"] => singles::print(),
         _ => usage(),
     }
 }
@@ -51,7 +58,7 @@ fn number(word: &str) -> u64 {
 
 fn usage() -> ! {
     eprintln!(
-        "usage: speed | speed run ROW {}|{} STEPS | speed grow SELECT POWER STEPS | speed watchdog | speed board",
+        "usage: speed | speed run ROW {}|{} STEPS | speed grow SELECT POWER STEPS | speed watchdog | speed board | speed single",
         Ours::NAME,
         Theirs::NAME
     );
