@@ -1,14 +1,12 @@
 // The file that records go to, for the dump.
 
 use room::Room;
+use session::settles::NOT_WRITTEN;
 use words::FINE;
 use words::NOT_OPENED;
 
 // No descriptor: records go nowhere.
 pub const NO_FILE: i32 = -1;
-
-// The file did not take a call's records; behind why a line cannot be read.
-pub const NOT_WRITTEN: u8 = 255;
 
 // A descriptor, and what failed.
 pub struct File {

@@ -4,14 +4,11 @@ mod files;
 mod pages;
 
 use crate::files::NO_FILE;
-use crate::files::NOT_WRITTEN;
 use crate::files::filed;
 use crate::pages::flush;
 use crate::pages::turned;
 use bench_lines::desk::Bench;
 use bench_lines::desk::Shelf;
-use bench_lines::shelved::shelved;
-use bench_lines::turns::turn;
 use libc::STDIN_FILENO;
 use linewise::LONGEST;
 use linewise::Line;
@@ -21,89 +18,32 @@ use log::BYTES;
 use log_lines::Area;
 use page::Page;
 use page::SIZE;
-use page::byte;
-use page::text;
-use page::unreadable;
 use room::FILL;
 use room::ROOM;
 use room::Room;
-use words::FINE;
-use words::NOT_OPENED;
+use session::runs::Run;
+use session::runs::lines;
+use session::settles::settled;
+ghost use Prim.Native.Nat.{ℕ};
+ghost use mathlib.Core.List.{List};
+ghost use mathlib.Core.Path.{_≡_};
+ghost use lib.ListN.{length};
+ghost use Rattle.page.specs.Page.{size};
+ghost use Rattle.bench_lines.specs.Claims.{left};
 ghost use Rattle.bench_lines.specs.Desk.{Sound, Stable};
+ghost use Rattle.bench_lines.specs.Named.{lent};
+ghost use Rattle.bench_lines.specs.Steps.{Held};
+ghost use Rattle.session.specs.Runs.{Carries};
 
-// The bench and its shelf, the page's place, how many bytes are held of a line, and the descriptor that records go to.
-struct Run {
-    bench: Bench,
-    shelf: Shelf,
-    at: usize,
-    held: usize,
+// The run, and the descriptor that records go to.
+struct Desk {
+    run: Run,
     fd: i32,
 }
 
-// The bench after a line and the file, the page's place, the descriptor, and whether the line counts.
-struct Outcome {
-    bench: Bench,
-    at: usize,
-    fd: i32,
-    counts: bool,
-}
-
-// Puts in place of an answer why the file failed.
-fn failed(page: &mut Page, from: usize, nth: u64, why: u8) -> usize {
-    let at = if why == NOT_WRITTEN {
-        text(page, from, b"door.log not written")
-    } else {
-        unreadable(page, from, nth, why)
-    };
-    byte(page, at, b'\n')
-}
-
-// Does what a line asks of the file. Where that cannot be begun anew nothing but the line's number has changed.
-fn settled(
-    fd: i32,
-    before: Bench,
-    after: Bench,
-    page: &mut Page,
-    from: usize,
-    to: usize,
-    room: &Room,
-    one: &Room,
-    two: &Room,
-) -> Outcome
-    requires { ⌜ (Sound before) × Sound after ⌝ }
-    ensures { λ r. ⌜ Sound (r .bench) ⌝ }
-{
-    let file = filed(fd, after.anew, after.kept, after.whose, room, one, two);
-    if file.why == FINE {
-        return Outcome {
-            bench: after,
-            at: to,
-            fd: file.fd,
-            counts: true,
-        };
-    }
-    let at = failed(page, from, after.line, file.why);
-    if file.why == NOT_OPENED {
-        let mut bench = before;
-        bench.line = after.line;
-        return Outcome {
-            bench,
-            at,
-            fd: file.fd,
-            counts: false,
-        };
-    }
-    Outcome {
-        bench: after,
-        at,
-        fd: file.fd,
-        counts: true,
-    }
-}
-
-// Answers the lines that end in a piece, and holds what is left.
+// Answers the lines that end in a piece, and holds what is left. Between them the page is written out where it has no room, and the file does what a line asks.
 fn piece(
-    r: Run,
+    d: Desk,
     input: &[u8],
     line: &mut Line,
     room: &mut Room,
@@ -112,45 +52,26 @@ fn piece(
     area: &mut Area,
     items: &mut Items,
     page: &mut Page,
-) -> Run
-    requires { ⌜ (Sound (r .bench)) × Stable (r .shelf) ⌝ }
-    ensures { λ r. ⌜ (Sound (r .bench)) × Stable (r .shelf) ⌝ }
+) -> Desk
+    requires { ⌜ (Sound (d .run .bench)) × Stable (d .run .shelf) ⌝ }
+    ensures { λ r. ⌜ (Sound (r .run .bench)) × (Stable (r .run .shelf)) × ((answers bytes : List ℕ) → Held (now (line .entry)) (d .run .held) bytes → length (now (page .entry)) ≡ size → (Carries (left (d .run .bench) (d .run .shelf) (lent (now (room .entry)) (now (area .entry)) (now (items .entry))) (now (one .entry)) (now (two .entry)) answers) bytes (now (input .entry)) (r .run .bench) (r .run .shelf) (r .run .held) (lent (now (room .exit)) (now (area .exit)) (now (items .exit))) (now (one .exit)) (now (two .exit)) (now (line .exit))) × (length (now (page .exit)) ≡ size)) ⌝ }
 {
-    let mut b = r.bench;
-    let mut shelf = r.shelf;
-    let mut at = r.at;
-    let mut held = r.held;
-    let mut fd = r.fd;
+    let mut run = d.run;
+    let mut fd = d.fd;
     let mut i = 0;
     while i < input.len() {
-        at = turned(page, at);
-        let t = turn(b, page, at, input, i, line, held, room, area, items);
-        i = t.next;
-        held = t.held;
-        let later = t.later;
-        if later.which != 0 {
-            let left = shelved(t.bench, shelf, page, at, line, later, room, one, two);
-            let s = settled(fd, b, left.bench, page, at, left.at, room, one, two);
-            b = s.bench;
-            at = s.at;
-            fd = s.fd;
-            if s.counts {
-                shelf = left.shelf;
-            }
-        } else if t.ended {
-            let s = settled(fd, b, t.bench, page, at, t.at, room, one, two);
-            b = s.bench;
-            at = s.at;
-            fd = s.fd;
+        run.at = turned(page, run.at);
+        let went = lines(run, input, i, line, room, one, two, area, items, page);
+        i = went.next;
+        run = went.run;
+        if went.asks {
+            let b = run.bench;
+            let file = filed(fd, b.anew, b.kept, b.whose, room, one, two);
+            fd = file.fd;
+            run = settled(run, went.before, went.spare, went.from, file.why, page);
         }
     }
-    Run {
-        bench: b,
-        shelf,
-        at,
-        held,
-        fd,
-    }
+    Desk { run, fd }
 }
 
 // Reads piece after piece, until none comes; a line feed ends the last line. A proved loop has to end, and nothing says that the input does: it counts its turns
@@ -164,13 +85,13 @@ fn main() {
     let mut area = [FILL; BYTES];
     let mut items = [0u8; LIST];
     let mut page = [0u8; SIZE];
-    let mut run = Run {
+    let run = Run {
         bench: Bench::new(),
         shelf: Shelf::new(),
         at: 0,
         held: 0,
-        fd: NO_FILE,
     };
+    let mut desk = Desk { run, fd: NO_FILE };
     let mut turns = u64::MAX;
     while turns > 0 {
         let got = libc::read(STDIN_FILENO, &mut input);
@@ -178,8 +99,8 @@ fn main() {
         if n == 0 {
             break;
         }
-        run = piece(
-            run,
+        desk = piece(
+            desk,
             &input[..n],
             &mut line,
             &mut room,
@@ -191,8 +112,8 @@ fn main() {
         );
         turns -= 1;
     }
-    run = piece(
-        run,
+    desk = piece(
+        desk,
         b"\n",
         &mut line,
         &mut room,
@@ -202,5 +123,6 @@ fn main() {
         &mut items,
         &mut page,
     );
+    let run = desk.run;
     flush(&page, run.at);
 }

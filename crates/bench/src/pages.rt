@@ -3,9 +3,10 @@
 use libc::STDOUT_FILENO;
 use page::Page;
 use page::SIZE;
-
-// The bytes of the longest answer (`Longest` of bench_lines), an order's to the board with three areas of 4,096 bytes, and its line feed.
-const ANSWER: usize = 24_777;
+use session::runs::roomy;
+ghost use mathlib.Core.Bool.{true};
+ghost use mathlib.Core.Path.{_≡_};
+ghost use Rattle.session.specs.Runs.{roomyOf};
 
 // Writes out the page up to a place.
 pub fn flush(page: &Page, at: usize) {
@@ -16,8 +17,10 @@ pub fn flush(page: &Page, at: usize) {
 }
 
 // The place for the next answer: the page is written out where it has no room for the longest.
-pub fn turned(page: &Page, at: usize) -> usize {
-    if at <= SIZE - ANSWER {
+pub fn turned(page: &Page, at: usize) -> usize
+    ensures { λ r. ⌜ roomyOf r ≡ true ⌝ }
+{
+    if roomy(at) {
         return at;
     }
     flush(page, at);

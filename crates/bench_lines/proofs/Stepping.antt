@@ -103,6 +103,12 @@ module _ (line : List ℕ) (held end : ℕ) (h : end ≤ length (take (held - 0)
 
 -- ---- a piece
 
+-- how far a piece is read, however much is held
+pub turn-cut : (input : List ℕ) (start : ℕ) (r : Reached) (t : Bool) → r ≡ cutOf input start (r .held) → r .ended ≡ t → (n : ℕ)
+    → (r .at ≡ cutOf input start n .at) × (t ≡ cutOf input start n .ended)
+unfolding cutOf
+turn-cut input start r t e k n = (ap (λ (x : Reached). x .at) e, sym k ∙ ap (λ (x : Reached). x .ended) e)
+
 pub turn-feeds : (s : State) (bytes input : List ℕ) (start : ℕ) (r : Reached) (t : Bool) → start < length input → r ≡ cutOf input start (r .held) → r .ended ≡ t
     → fed stepOf (reading s bytes) (between input start (r .at)) ≡ cond t (reading (stepOf s (soFar bytes input start)) []) (reading s (soFar bytes input start))
 turn-feeds s bytes input start r t h e k =

@@ -8,7 +8,7 @@ use lib.ListN.{length, take}
 use Rattle.words.specs.Words.{skipOf, findOf}
 use Rattle.words.specs.Numbers.{between}
 use Rattle.page.specs.Page.{unreadableOf}
-use Rattle.linewise.specs.Lines.{Holds, endOf}
+use Rattle.linewise.specs.Lines.{Holds, endOf, cutOf}
 use Rattle.linewise.specs.Claims.{Read, reading, fed}
 use Rattle.board.specs.Calls.{areasOf}
 use Rattle.bench_lines.specs.declared.desk.Bench.{Bench}
@@ -91,6 +91,7 @@ soFar bytes input start = bytes ++ between input start (endOf input start)
 
 -- a piece read from a place on is the script fed on to there: a line that ended is answered, but for what it asks of the shelf, and one that did not is held
 pub record Turns (b : Bench) (l : Lent) (bytes input : List ℕ) (start : ℕ) (old : List ℕ) (from : ℕ) (new room area items line : List ℕ) (r : Turned) : Type 0 where
+  pub cut : (n : ℕ) → (r .next ≡ cutOf input start n .at) × (r .ended ≡ cutOf input start n .ended)
   pub feeds : (s : State) → fed stepOf (reading s bytes) (between input start (r .next)) ≡ cond (r .ended) (reading (stepOf s (soFar bytes input start)) []) (reading s (soFar bytes input start))
   pub hears : Hears (cond (r .ended) (firstOf b (soFar bytes input start) l) (saying b [] l)) old from new room area items (record { bench = r .bench; at = r .at; later = r .later })
   pub held : Held line (r .held) (cond (r .ended) [] (soFar bytes input start))

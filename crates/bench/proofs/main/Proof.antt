@@ -8,10 +8,10 @@ use Rattle.bench.proofs.main.Statement.{statement}
 use Rattle.bench.proofs.main.Tie as tie
 
 abbrev Inv-loop : tie.InvT-loop
-Inv-loop input₀ line₀ room₀ one₀ two₀ area₀ items₀ page₀ run₀ turns₀ feed input line room one two area items page run turns = (65536 ≡ length input) × (Sound (run .bench)) × Stable (run .shelf)
+Inv-loop input₀ line₀ room₀ one₀ two₀ area₀ items₀ page₀ desk₀ turns₀ feed input line room one two area items page desk turns = (65536 ≡ length input) × (Sound (desk .run .bench)) × Stable (desk .run .shelf)
 
 abbrev μ-loop : tie.MeasureT-loop
-μ-loop input₀ line₀ room₀ one₀ two₀ area₀ items₀ page₀ run₀ turns₀ feed input line room one two area items page run turns = turns
+μ-loop input₀ line₀ room₀ one₀ two₀ area₀ items₀ page₀ desk₀ turns₀ feed input line room one two area items page desk turns = turns
 
 loop-holds : tie.Need-loop-holds Inv-loop μ-loop
 loop-holds c = (search needs, c .before .new .ensures .0, c .new2 .ensures .0)

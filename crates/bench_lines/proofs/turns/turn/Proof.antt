@@ -4,7 +4,7 @@ use mathlib.Core.Bool.{true, false}
 use Rattle.page.proofs.Sheets.{put-none}
 use Rattle.bench_lines.specs.Steps.{soFar}
 use Rattle.bench_lines.proofs.Feeding.{held-none, held-more, held-size}
-use Rattle.bench_lines.proofs.Stepping.{turn-feeds}
+use Rattle.bench_lines.proofs.Stepping.{turn-cut, turn-feeds}
 use borrow.Author.Needs.{needs}
 use Rattle.bench_lines.proofs.turns.turn.Statement.{statement}
 use Rattle.bench_lines.proofs.turns.turn.Tie as tie
@@ -24,7 +24,7 @@ returns c =
       λ bytes h.
           let more = held-more (a .line .now) _ bytes _ (a .held) (r .held) h (cuts .held) in
           let st = c .before .before .step .ensures .2 (soFar bytes (a .input .now) (a .start)) more in
-          record { feeds = λ s. turn-feeds s bytes (a .input .now) (a .start) r true (c .before .before .before .before .before .before .before .before .before .before .before .before .pre .1) (cuts .cut) (c .before .before .before .before .before .before .before .before .if1 .taken); hears = st .0; held = held-none _ (held-size _ _ _ more); asked = st .1 },
+          record { cut = turn-cut (a .input .now) (a .start) r true (cuts .cut) (c .before .before .before .before .before .before .before .before .if1 .taken); feeds = λ s. turn-feeds s bytes (a .input .now) (a .start) r true (c .before .before .before .before .before .before .before .before .before .before .before .before .pre .1) (cuts .cut) (c .before .before .before .before .before .before .before .before .if1 .taken); hears = st .0; held = held-none _ (held-size _ _ _ more); asked = st .1 },
     )
 
 returns-2 : tie.Need-returns-2
@@ -38,7 +38,7 @@ returns-2 c =
       c .before .before .cut .ensures .0,
       c .before .before .cut .ensures .1,
       λ bytes h.
-          record { feeds = λ s. turn-feeds s bytes (a .input .now) (a .start) r false (c .before .before .before .before .before .pre .1) (cuts .cut) (c .before .if1 .left); hears = record { bench = refl; puts = put-none _ _; lent = refl; later = refl; sound = c .before .before .before .before .before .pre .0 }; held = held-more (a .line .now) _ bytes _ (a .held) (r .held) h (cuts .held); asked = refl },
+          record { cut = turn-cut (a .input .now) (a .start) r false (cuts .cut) (c .before .if1 .left); feeds = λ s. turn-feeds s bytes (a .input .now) (a .start) r false (c .before .before .before .before .before .pre .1) (cuts .cut) (c .before .if1 .left); hears = record { bench = refl; puts = put-none _ _; lent = refl; later = refl; sound = c .before .before .before .before .before .pre .0 }; held = held-more (a .line .now) _ bytes _ (a .held) (r .held) h (cuts .held); asked = refl },
     )
 
 pub turn-spec : {M : Type 1} → statement M
