@@ -197,7 +197,11 @@ const NEVER: u64 = u64::MAX;
 impl Next {
     #[inline]
     pub(crate) fn of(reply: &raw::Reply) -> Option<Self> {
-        (reply.number == 0).then_some(Self::at(reply.next, reply.flags))?
+        if reply.number == 0 {
+            Self::at(reply.next, reply.flags)
+        } else {
+            None
+        }
     }
 
     #[inline]

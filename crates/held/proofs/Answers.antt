@@ -56,7 +56,7 @@ next-small t v =
     omega arith
 
 -- the next event's number tells whether it is due
-due-is : (t : Timer) (cycle : ℕ) → cycle < 2 ^ 62 → isDue t cycle ≡ leb (codeOf (nextOf t)) cycle
+pub due-is : (t : Timer) (cycle : ℕ) → cycle < 2 ^ 62 → isDue t cycle ≡ leb (codeOf (nextOf t)) cycle
 unfolding isDue nextOf codeOf
 due-is t cycle l = go (runningOf t) refl
   where
@@ -64,7 +64,7 @@ due-is t cycle l = go (runningOf t) refl
     go true e = rw e refl
     go false e = rw e (sym (lt-leb never cycle (omega arith)))
 
-late-low : (latest cycle : ℕ) → lateAt latest cycle ≡ 0 → cycle < 2 ^ 62
+pub late-low : (latest cycle : ℕ) → lateAt latest cycle ≡ 0 → cycle < 2 ^ 62
 late-low latest cycle e = go (ltb (2 ^ 62 - 1) cycle) refl
   where
     go : (b : Bool) → ltb (2 ^ 62 - 1) cycle ≡ b → cycle < 2 ^ 62
@@ -155,7 +155,7 @@ answering-right h c cycle tested a k m p s = go (eqb (refusing tested (h .timer 
     go false e = rw e (turned-serves h c cycle _ k is (eqb-false _ _ e))
 
 -- ---- the next event
-event-what : (t : Timer) → Valid t → cond (eqb (codeOf (nextOf t)) never) 3 2 ≡ whatOf (event (nextOf t))
+pub event-what : (t : Timer) → Valid t → cond (eqb (codeOf (nextOf t)) never) 3 2 ≡ whatOf (event (nextOf t))
 unfolding codeOf nextOf
 event-what t v = go (runningOf t)
   where
@@ -163,7 +163,7 @@ event-what t v = go (runningOf t)
     go true = let l = next-small t v in simp (ne-eqb (nextAt t) never (omega arith))
     go false = refl
 
-event-value : (t : Timer) → Valid t → cond (eqb (codeOf (nextOf t)) never) 0 (codeOf (nextOf t)) ≡ valueOf (event (nextOf t))
+pub event-value : (t : Timer) → Valid t → cond (eqb (codeOf (nextOf t)) never) 0 (codeOf (nextOf t)) ≡ valueOf (event (nextOf t))
 unfolding codeOf nextOf
 event-value t v = go (runningOf t)
   where

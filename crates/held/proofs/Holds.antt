@@ -19,8 +19,12 @@ use Rattle.counter.specs.Setting.{settingAt, settingOf, movingOf}
 use Rattle.counter.specs.Valid.{Valid}
 use Rattle.counter.proofs.Clocks.{running-divides, next-fits}
 use Rattle.tick.specs.declared.distance.Distance.{Distance}
+use Rattle.tick.specs.declared.setting.Moving.{Moving}
+use Rattle.tick.specs.declared.setting.Setting.{Setting}
+use Rattle.wave.specs.declared.kinds.Wave.{Wave}
 use Rattle.tick.specs.Distance.{distanceOf}
 use Rattle.tick.specs.Skip.{distance}
+use Rattle.tick.specs.Sound.{Steady}
 use Rattle.time.specs.declared.units.Prescaler.{Prescaler}
 use Rattle.time.specs.declared.units.Ticks.{Ticks}
 use Rattle.time.specs.Units.{ticksAt, cycleAt}
@@ -81,6 +85,24 @@ pub shift-small : (d : ℕ) (b : Bool) → shiftAt d b < 64
 shift-small d b = let l = shift-upto d b in omega arith
 
 -- ---- the next event, sought once
+-- the setting in which it is sought
+pub record Sought (t : Timer) (n : ℕ) (w : Wave) (s : Setting) (m : Moving) : Type 0 where
+  pub mode : n ≡ modeOf t
+  pub wave : w ≡ waveOf t n
+  pub setting : s ≡ settingAt t n w
+  pub moving : m ≡ movingOf t
+
+module _ {t : Timer} {n : ℕ} {w : Wave} {s : Setting} {m : Moving} (q : Sought t n w s m) where
+  setting-is : s ≡ settingOf t
+  setting-is = q .setting ∙ ap (settingAt t n) (q .wave) ∙ ap (λ (k : ℕ). settingAt t k (waveOf t k)) (q .mode)
+
+  pub sought-steady : Valid t → Steady (s .wave) m
+  unfolding settingAt
+  sought-steady v = rw (setting-is, q .moving) (valid-sound t v .steady)
+
+  pub sought-ahead : {d : Distance} → d ≡ distanceOf s m → d ≡ distanceOf (settingOf t) (movingOf t)
+  sought-ahead e = e ∙ ap (λ (x : Setting). distanceOf x m) setting-is ∙ ap (distanceOf (settingOf t)) (q .moving)
+
 -- what was found of a timer that runs
 pub record Found (t : Timer) (p : Prescaler) (last : Ticks) (d : Distance) : Type 0 where
   pub clock : p ≡ prescalerOf t

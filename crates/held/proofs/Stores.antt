@@ -1,13 +1,13 @@
 -- Writes that leave the next event as it is, of what is kept of a timer.
-use Prim.Native.Nat.{ℕ, zero, suc, _-_, _/_, _%_, _≤_, _<_}
+use Prim.Native.Nat.{ℕ, zero, suc, _+_, _-_, _/_, _%_, _≤_, _<_}
 use native.Mathlib.Omega.{arith}
 use native.Mathlib.Nat.{mod-eq-of-lt}
 use mathlib.Core.Path.{_≡_, refl, sym, ap, _∙_}
-use mathlib.Core.Bool.{Bool, true, false, cond, not, _&&_, true≢false}
+use mathlib.Core.Bool.{Bool, true, false, cond, not, _&&_, _||_, true≢false}
 use mathlib.Core.List.{List}
-use lib.Dec.{eqb, leb}
+use lib.Dec.{eqb, leb, ltb}
 use lib.ListN.{set}
-use borrow.Author.Tests.{eqb-true, leb-true, lt-leb, ne-eqb, not-true}
+use borrow.Author.Tests.{eqb-true, leb-true, ltb-false, lt-leb, ne-eqb, not-true, not-false}
 use Rattle.config.specs.Config.{placeOf}
 use Rattle.wave.specs.Kinds.{C}
 use Rattle.wave.specs.Count.{falls}
@@ -31,7 +31,7 @@ use Rattle.answers.specs.Answers.{Tells}
 use Rattle.timer.specs.declared.calls.Call.{Call}
 use Rattle.timer.specs.declared.calls.Call.the-variants as call
 use Rattle.timer.specs.Calls.{answered, asks, works, says}
-use Rattle.timer.proofs.Outcomes.{plainly}
+use Rattle.timer.proofs.Outcomes.{or-left, plainly}
 use Rattle.held.specs.declared.state.Held.{Held}
 use Rattle.held.specs.declared.write.Buffered.{Buffered}
 use Rattle.held.specs.Held.{Kept, codeOf, flagsIn}
@@ -42,9 +42,13 @@ use Rattle.held.proofs.Answers.{Timed, refusal-is, plain-serves, serves
 use Rattle.held.proofs.Puts.{latestIn, tempIn, counterIn, clockIn, bufferIn, waitingTo, waitingIn}
 use Rattle.held.proofs.Stills.{Quiet, quiet-in, stored, stored-kept, stored-ready}
 
-and-right : (a b : Bool) → a && b ≡ true → b ≡ true
+pub and-right : (a b : Bool) → a && b ≡ true → b ≡ true
 and-right true b e = e
 and-right false b e = absurd (true≢false (sym e))
+
+pub or-right : (a b : Bool) → a || b ≡ false → b ≡ false
+or-right true b e = absurd (true≢false e)
+or-right false b e = e
 
 -- ---- what a way says
 module _ (h : Held) (address cycle : ℕ) where
@@ -57,42 +61,67 @@ module _ (h : Held) (address cycle : ℕ) where
   abbrev due : ℕ
   due = refusing true (h .timer .clock .latest .0) (h .next) cycle
 
-  abbrev compares : Bool
-  compares = ((leb 2 place && leb place 6) && not (leb (h .scene .kind) C)) && eqb due 0
+  -- no register, or refused
+  abbrev refused : Bool
+  refused = ltb 12 place || not (eqb due 0)
 
-  abbrev chosen : Bool → Bool → Bool → ℕ
-  chosen high early compares = cond high (cond early 1 0) (cond compares place 0)
+  abbrev compares : Bool
+  compares = (leb 2 place && leb place 6) && not (leb (h .scene .kind) C)
+
+  abbrev chosen : Bool → Bool → Bool → Bool → ℕ
+  chosen high early refused compares = cond high (cond early 1 32) (cond refused 32 (cond compares place (16 + place)))
+
+  due-none : refused ≡ false → due ≡ 0
+  due-none r = eqb-true due 0 (not-false (eqb due 0) (or-right (ltb 12 place) _ r))
 
   pub latches : wayOf h address cycle ≡ 1 → (isHigh place ≡ true) × (early ≡ 0)
   unfolding wayAt
-  latches w = go (isHigh place) (eqb early 0) compares refl refl refl w
+  latches w = go (isHigh place) (eqb early 0) refused compares refl refl refl refl w
     where
-      go : (x y z : Bool) → isHigh place ≡ x → eqb early 0 ≡ y → compares ≡ z → chosen x y z ≡ 1 → (isHigh place ≡ true) × (early ≡ 0)
-      go true true z p q r e = (p, eqb-true _ _ q)
-      go true false z p q r e = absurd (omega arith)
-      go false y true p q r e = let l = leb-true 2 place (and-left _ _ (and-left _ _ (and-left _ _ r))) in absurd (omega arith)
-      go false y false p q r e = absurd (omega arith)
+      go : (x y u z : Bool) → isHigh place ≡ x → eqb early 0 ≡ y → refused ≡ u → compares ≡ z → chosen x y u z ≡ 1 → (isHigh place ≡ true) × (early ≡ 0)
+      go true true u z p q o r e = (p, eqb-true _ _ q)
+      go true false u z p q o r e = absurd (omega arith)
+      go false y true z p q o r e = absurd (omega arith)
+      go false y false true p q o r e = let l = leb-true 2 place (and-left _ _ (and-left _ _ r)) in absurd (omega arith)
+      go false y false false p q o r e = absurd (omega arith)
 
-  pub waits : (wayOf h address cycle ≡ 1 → ⊥) → (wayOf h address cycle ≡ 0 → ⊥) → (place ≡ wayOf h address cycle) × Waits h (wayOf h address cycle) cycle
+  pub waits : (wayOf h address cycle ≡ 1 → ⊥) → wayOf h address cycle < 16 → (place ≡ wayOf h address cycle) × Waits h (wayOf h address cycle) cycle
   unfolding wayAt
-  waits n m = go (isHigh place) (eqb early 0) compares refl refl refl n m
+  waits n m = go (isHigh place) (eqb early 0) refused compares refl refl refl refl n m
     where
-      go : (x y z : Bool) → isHigh place ≡ x → eqb early 0 ≡ y → compares ≡ z → (chosen x y z ≡ 1 → ⊥) → (chosen x y z ≡ 0 → ⊥) → (place ≡ chosen x y z) × Waits h (chosen x y z) cycle
-      go true true z p q r n m = absurd (n refl)
-      go true false z p q r n m = absurd (m refl)
-      go false y true p q r n m =
-          let b : (leb 2 place && leb place 6) && not (leb (h .scene .kind) C) ≡ true = and-left _ (eqb due 0) r in
-          let a : leb 2 place && leb place 6 ≡ true = and-left _ (not (leb (h .scene .kind) C)) b in (
+      go : (x y u z : Bool) → isHigh place ≡ x → eqb early 0 ≡ y → refused ≡ u → compares ≡ z → (chosen x y u z ≡ 1 → ⊥) → chosen x y u z < 16 → (place ≡ chosen x y u z) × Waits h (chosen x y u z) cycle
+      go true true u z p q o r n m = absurd (n refl)
+      go true false u z p q o r n m = absurd (omega arith)
+      go false y true z p q o r n m = absurd (omega arith)
+      go false y false true p q o r n m =
+          let a : leb 2 place && leb place 6 ≡ true = and-left _ (not (leb (h .scene .kind) C)) r in (
             refl,
             record {
               first = leb-true 2 place (and-left _ (leb place 6) a);
               last = leb-true place 6 (and-right (leb 2 place) _ a);
               low = p;
-              kind = not-true (leb (h .scene .kind) C) (and-right (leb 2 place && leb place 6) _ b);
-              quiet = eqb-true due 0 (and-right ((leb 2 place && leb place 6) && not (leb (h .scene .kind) C)) _ r);
+              kind = not-true (leb (h .scene .kind) C) (and-right (leb 2 place && leb place 6) _ r);
+              quiet = due-none o;
             },
           )
-      go false y false p q r n m = absurd (m refl)
+      go false y false false p q o r n m = absurd (omega arith)
+
+  -- any other that is accepted below the next event
+  pub takes : 16 ≤ wayOf h address cycle → wayOf h address cycle < 32
+      → (place ≡ wayOf h address cycle - 16) × (wayOf h address cycle - 16 ≤ 12) × (isHigh (wayOf h address cycle - 16) ≡ false) × (due ≡ 0)
+  unfolding wayAt
+  takes n m = go (isHigh place) (eqb early 0) refused compares refl refl refl refl n m
+    where
+      go : (x y u z : Bool) → isHigh place ≡ x → eqb early 0 ≡ y → refused ≡ u → compares ≡ z → 16 ≤ chosen x y u z → chosen x y u z < 32
+          → (place ≡ chosen x y u z - 16) × (chosen x y u z - 16 ≤ 12) × (isHigh (chosen x y u z - 16) ≡ false) × (due ≡ 0)
+      go true true u z p q o r n m = absurd (omega arith)
+      go true false u z p q o r n m = absurd (omega arith)
+      go false y true z p q o r n m = absurd (omega arith)
+      go false y false true p q o r n m = let l = leb-true place 6 (and-right (leb 2 place) _ (and-left _ _ r)) in absurd (omega arith)
+      go false y false false p q o r n m =
+          let e : 16 + place - 16 ≡ place = omega arith in
+          let l = ltb-false 12 place (or-left (ltb 12 place) _ o) in
+          (sym e, omega arith, ap isHigh e ∙ p, due-none o)
 
 -- ---- a high byte: TEMP takes it
 kept-temp : (h : Held) (v n : ℕ) → Kept h → Valid (latestTo (tempTo (h .timer) v) n) → Kept (latestIn (tempIn h v) n)

@@ -1,8 +1,8 @@
 -- Writes that leave the next event as it is: a high byte, which is TEMP, and the low byte of a compare that waits in its buffer (01, "Registers and capture").
-use Prim.Native.Nat.{ℕ, _-_, _/_, _≤_}
-use mathlib.Core.Bool.{true, false, cond, not, _&&_}
+use Prim.Native.Nat.{ℕ, _+_, _-_, _/_, _≤_}
+use mathlib.Core.Bool.{true, false, cond, not, _&&_, _||_}
 use mathlib.Core.Path.{_≡_}
-use lib.Dec.{eqb, leb}
+use lib.Dec.{eqb, leb, ltb}
 use lib.ListN.{set}
 use Rattle.config.specs.Config.{placeOf}
 use Rattle.wave.specs.Kinds.{C}
@@ -14,11 +14,11 @@ use Rattle.held.specs.declared.write.Buffered.{Buffered}
 use Rattle.held.specs.Quick.{refusing, stilled}
 use Rattle.held.specs.Reply.{replied, Served}
 
--- the way of a write to a place: 1 to a high byte, the place to a compare's low byte in a mode that buffers it; 0 for any other, and where the cycle is refused
+-- the way of a write to a place: 1 to a high byte, the place to a compare's low byte in a mode that buffers it, 16 more than the place to any other; 32 where it is refused
 unfoldable pub wayAt : ℕ → ℕ → ℕ → ℕ → ℕ → ℕ
 wayAt place kind latest next cycle =
-    cond (isHigh place) (cond (eqb (refusing false latest next cycle) 0) 1 0)
-    (cond (((leb 2 place && leb place 6) && not (leb kind C)) && eqb (refusing true latest next cycle) 0) place 0)
+    cond (isHigh place) (cond (eqb (refusing false latest next cycle) 0) 1 32)
+    (cond (ltb 12 place || not (eqb (refusing true latest next cycle) 0)) 32 (cond ((leb 2 place && leb place 6) && not (leb kind C)) place (16 + place)))
 
 -- of a write to an address of a held timer
 abbrev pub wayOf : Held → ℕ → ℕ → ℕ

@@ -54,9 +54,10 @@ pub fn held_of(t: Timer) -> Held
     let down = wave.falls(counter);
     let ocr = t.ocr;
     let top = wave.top(ocr[0]);
-    let scene = scene_of(t.setting(mode, wave));
+    let setting = t.setting(mode, wave);
+    let scene = scene_of(setting);
     if t.running() {
-        let d = t.distance();
+        let d = setting.distance(t.moving());
         let p = t.prescaler();
         let clock = t.clock;
         let sync = clock.sync;

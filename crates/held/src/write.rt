@@ -13,7 +13,7 @@ ghost use Rattle.config.specs.Config.{placeOf};
 ghost use Rattle.held.specs.Held.{Kept};
 ghost use Rattle.held.specs.Write.{wayAt, Waits, buffered};
 
-// The way of a write: 1 to a high byte, the register's place to the low byte of a compare that is buffered; 0 for any other, and where the cycle is refused.
+// The way of a write: 1 to a high byte, the register's place to the low byte of a compare that is buffered, 16 more than the place to any other; 32 where it is refused.
 pub fn way_of(config: Config, kind: u8, latest: u64, next: u64, address: u16, cycle: u64) -> u8
     ensures { λ r. ⌜ r ≡ wayAt (placeOf config address) kind latest next cycle ⌝ }
 {
@@ -22,16 +22,16 @@ pub fn way_of(config: Config, kind: u8, latest: u64, next: u64, address: u16, cy
         if refusing(false, latest, next, cycle) == 0 {
             1
         } else {
-            0
+            32
         }
-    } else if (2 <= place)
-        & (place <= 6)
-        & !non_pwm(kind)
-        & (refusing(true, latest, next, cycle) == 0)
-    {
+    } else if 12 < place {
+        32
+    } else if refusing(true, latest, next, cycle) != 0 {
+        32
+    } else if (2 <= place) & (place <= 6) & !non_pwm(kind) {
         place
     } else {
-        0
+        16 + place
     }
 }
 

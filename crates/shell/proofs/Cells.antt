@@ -1,5 +1,6 @@
 -- The parts of a held timer in memory: how a walk finds, reads and overwrites each. A walk cites them by name, and so never compares the whole struct.
 use Prim.Native.Nat.{ℕ, _+_, _<_, _^_}
+use mathlib.Core.Bool.{Bool}
 use mathlib.Core.Path.{_≡_, refl, sym, subst}
 use mathlib.Core.List.{List, [], _∷_}
 use mathlib.Core.Option.{some as some-at}
@@ -22,12 +23,14 @@ use Rattle.time.specs.declared.clock.Clock.{Clock}
 use Rattle.counter.proofs.state.Timer.Laws as Z′
 use Rattle.config.proofs.Config.Laws as Q′
 use Rattle.counter.proofs.state.Registers.Laws as U′
+use Rattle.counter.specs.declared.state.Flags.{Flags}
+use Rattle.counter.proofs.state.Flags as X
 use Rattle.counter.proofs.state.Flags.Laws as X′
 use denote.Memory.{cellAt}
 use denote.Struct.Laws as LL
 use Rattle.held.specs.declared.state.Held.{Held}
 use Rattle.held.proofs.Puts.{latestIn, tifrIn, tempIn, counterIn, clockIn, bufferIn, waitingIn}
-use Rattle.shell.proofs.Places.{held-of, timer-of, scene-of, config-of, registers-of, flags-of, drives-of, clock-of, counter-of, cycle-of, Words, words-of, words-typed, Bytes, bytes-of, bytes-typed, nextIn, topIn, bitsIn, syncIn, countIn, odometerIn, ocrIn, ocIn, drivesIn}
+use Rattle.shell.proofs.Places.{held-of, timer-of, scene-of, config-of, registers-of, flags-of, halts-of, drives-of, clock-of, counter-of, cycle-of, Words, words-of, words-typed, Bytes, bytes-of, bytes-typed, nextIn, topIn, bitsIn, syncIn, countIn, odometerIn, ocrIn, ocIn, drivesIn, raisedIn, routedIn, timskIn}
 use Rattle.tick.specs.declared.setting.Drives.{Drives}
 use Rattle.tick.proofs.setting.Drives as G
 use Rattle.tick.proofs.setting.Drives.Laws as G′
@@ -35,6 +38,7 @@ use Rattle.scene.proofs.state.Scene.Laws as S′
 use Rattle.time.proofs.units.Cycle.Laws as N′
 use Rattle.time.proofs.clock.Clock as J
 use Rattle.time.proofs.clock.Clock.Laws as J′
+use Rattle.time.proofs.halts.Halts.Laws as L′
 use Rattle.wave.proofs.count.Counter as Y
 use Rattle.wave.proofs.count.Counter.Laws as Y′
 use Rattle.held.proofs.state.Held as H
@@ -72,6 +76,9 @@ waiting-at = refl
 pub kind-at : fieldOf S′.mir 2 ≡ some-at (tyInt w8, 16)
 kind-at = refl
 
+pub timsk-at : fieldOf S′.mir 16 ≡ some-at (tyInt w8, 30)
+timsk-at = refl
+
 pub config-at : fieldOf Z′.mir 0 ≡ some-at (Q′.mir, 0)
 config-at = refl
 
@@ -99,6 +106,9 @@ tflags-at = refl
 pub clock-at : fieldOf Z′.mir 8 ≡ some-at (J′.mir, 136)
 clock-at = refl
 
+pub halts-at : fieldOf Z′.mir 9 ≡ some-at (L′.mir, 160)
+halts-at = refl
+
 pub wide-at : fieldOf Q′.mir 1 ≡ some-at (tyBool, 1)
 wide-at = refl
 
@@ -116,6 +126,9 @@ temp-at = refl
 
 pub tifr-at : fieldOf X′.mir 0 ≡ some-at (tyInt w8, 0)
 tifr-at = refl
+
+pub routed-at : fieldOf L′.mir 4 ≡ some-at (tyBool, 18)
+routed-at = refl
 
 pub sync-at : fieldOf J′.mir 0 ≡ some-at (N′.mir, 0)
 sync-at = refl
@@ -181,6 +194,9 @@ with-buffer h u = within (held-of h) 0 (within (timer-of (h .timer)) 3 u)
 abbrev with-waiting : Held → Val → Val
 with-waiting h u = within (held-of h) 1 (within (scene-of (h .scene)) 1 u)
 
+abbrev with-timsk : Held → Val → Val
+with-timsk h u = within (held-of h) 1 (within (scene-of (h .scene)) 16 u)
+
 abbrev with-config : Held → Val → Val
 with-config h u = within (held-of h) 0 (within (timer-of (h .timer)) 0 u)
 
@@ -198,6 +214,12 @@ with-temp h u = within (held-of h) 0 (within (timer-of (h .timer)) 6 (within (re
 
 abbrev with-tifr : Held → Val → Val
 with-tifr h u = within (held-of h) 0 (within (timer-of (h .timer)) 7 (within (flags-of (h .timer .flags)) 0 u))
+
+abbrev with-raised : Held → Val → Val
+with-raised h u = within (held-of h) 0 (within (timer-of (h .timer)) 7 u)
+
+abbrev with-routed : Held → Val → Val
+with-routed h u = within (held-of h) 0 (within (timer-of (h .timer)) 9 (within (halts-of (h .timer .halts)) 4 u))
 
 abbrev with-counter : Held → Val → Val
 with-counter h u = within (held-of h) 0 (within (timer-of (h .timer)) 1 u)
@@ -248,6 +270,9 @@ module _ {M : Type 1} {𝓤 : URA M} {H : Heap 𝓤} {A : Atoms 𝓤} {K : Type 
   waiting-part : K → {q : Share} {b o : ℕ} (h : Held) → Part K W (‵ (cell q h b o)) q (tyArray (tyInt w32) 3) b (o + 184 + 4) (words-of (h .scene .buffer)) (λ u. ‵ (valued q b o (with-waiting h u)))
   waiting-part t h = part-raw (tyArray (tyInt w32) 3) (sub t 1 refl (sub t 1 refl (whole t)))
 
+  timsk-part : K → {q : Share} {b o : ℕ} (h : Held) → Part K W (‵ (cell q h b o)) q (tyInt w8) b (o + 184 + 30) (vint w8 (h .scene .timsk)) (λ u. ‵ (valued q b o (with-timsk h u)))
+  timsk-part t h = sub t 16 refl (sub t 1 refl (whole t))
+
   config-part : K → {q : Share} {b o : ℕ} (h : Held) → Part K W (‵ (cell q h b o)) q (Q′.mir) b (o + 0 + 0) (config-of (h .timer .config)) (λ u. ‵ (valued q b o (with-config h u)))
   config-part t h = part-raw Q′.mir (sub t 0 refl (sub t 0 refl (whole t)))
 
@@ -265,6 +290,12 @@ module _ {M : Type 1} {𝓤 : URA M} {H : Heap 𝓤} {A : Atoms 𝓤} {K : Type 
 
   tifr-part : K → {q : Share} {b o : ℕ} (h : Held) → Part K W (‵ (cell q h b o)) q (tyInt w8) b (o + 0 + 128 + 0) (vint w8 (h .timer .flags .tifr)) (λ u. ‵ (valued q b o (with-tifr h u)))
   tifr-part t h = sub t 0 refl (sub t 7 refl (sub t 0 refl (whole t)))
+
+  raised-part : K → {q : Share} {b o : ℕ} (h : Held) → Part K W (‵ (cell q h b o)) q (X′.mir) b (o + 0 + 128) (flags-of (h .timer .flags)) (λ u. ‵ (valued q b o (with-raised h u)))
+  raised-part t h = part-raw X′.mir (sub t 7 refl (sub t 0 refl (whole t)))
+
+  routed-part : K → {q : Share} {b o : ℕ} (h : Held) → Part K W (‵ (cell q h b o)) q (tyBool) b (o + 0 + 160 + 18) (vbool (h .timer .halts .routed)) (λ u. ‵ (valued q b o (with-routed h u)))
+  routed-part t h = sub t 4 refl (sub t 9 refl (sub t 0 refl (whole t)))
 
   counter-part : K → {q : Share} {b o : ℕ} (h : Held) → Part K W (‵ (cell q h b o)) q (Y′.mir) b (o + 0 + 56) (counter-of (h .timer .counter)) (λ u. ‵ (valued q b o (with-counter h u)))
   counter-part t h = part-raw Y′.mir (sub t 1 refl (sub t 0 refl (whole t)))
@@ -324,6 +355,9 @@ module _ {M : Type 1} {𝓤 : URA M} {H : Heap 𝓤} {A : Atoms 𝓤} {K : Type 
     pub waiting-stored : K → (i : ℕ) {b o : ℕ} (h : Held) (n : List ℕ) → Words n → nth 𝓤 H A i Γ ≡ ‵ (cell fullShare h b o) → Writes K W Γ (tyArray (tyInt w32) 3) b (o + 184 + 4) (words-of (n)) (put 𝓤 H A i (‵ (cell fullShare (waitingIn h n) b o)) Γ)
     waiting-stored t i {b} {o} h n f e = store-in t i (subst (λ (j : Item 𝓤). Part K W j fullShare (tyArray (tyInt w32) 3) b (o + 184 + 4) (words-of (h .scene .buffer)) (λ u. ‵ (valued fullShare b o (with-waiting h u)))) (sym e) (waiting-part t h)) (words-typed 𝓤 H A W n f)
 
+    pub timsk-stored : K → (i : ℕ) {b o : ℕ} (h : Held) (n : ℕ) → n < 2 ^ 8 → nth 𝓤 H A i Γ ≡ ‵ (cell fullShare h b o) → Writes K W Γ (tyInt w8) b (o + 184 + 30) (vint w8 (n)) (put 𝓤 H A i (‵ (cell fullShare (timskIn h n) b o)) Γ)
+    timsk-stored t i {b} {o} h n f e = store-in t i (subst (λ (j : Item 𝓤). Part K W j fullShare (tyInt w8) b (o + 184 + 30) (vint w8 (h .scene .timsk)) (λ u. ‵ (valued fullShare b o (with-timsk h u)))) (sym e) (timsk-part t h)) (tt, record { fits = f })
+
     pub config-read : K → (i : ℕ) {q : Share} {b o : ℕ} (h : Held) → nth 𝓤 H A i Γ ≡ ‵ (cell q h b o) → Reads K W Γ (Q′.mir) b (o + 0 + 0) (config-of (h .timer .config))
     config-read t i {q} {b} {o} h e = look-in t i (subst (λ (j : Item 𝓤). Part K W j q (Q′.mir) b (o + 0 + 0) (config-of (h .timer .config)) (λ u. ‵ (valued q b o (with-config h u)))) (sym e) (config-part t h))
 
@@ -347,6 +381,12 @@ module _ {M : Type 1} {𝓤 : URA M} {H : Heap 𝓤} {A : Atoms 𝓤} {K : Type 
 
     pub tifr-stored : K → (i : ℕ) {b o : ℕ} (h : Held) (n : ℕ) → n < 2 ^ 8 → nth 𝓤 H A i Γ ≡ ‵ (cell fullShare h b o) → Writes K W Γ (tyInt w8) b (o + 0 + 128 + 0) (vint w8 (n)) (put 𝓤 H A i (‵ (cell fullShare (tifrIn h n) b o)) Γ)
     tifr-stored t i {b} {o} h n f e = store-in t i (subst (λ (j : Item 𝓤). Part K W j fullShare (tyInt w8) b (o + 0 + 128 + 0) (vint w8 (h .timer .flags .tifr)) (λ u. ‵ (valued fullShare b o (with-tifr h u)))) (sym e) (tifr-part t h)) (tt, record { fits = f })
+
+    pub raised-stored : K → (i : ℕ) {b o : ℕ} (h : Held) (n : Flags) → Is X.the-row n (flags-of n ∷ []) → nth 𝓤 H A i Γ ≡ ‵ (cell fullShare h b o) → Writes K W Γ (X′.mir) b (o + 0 + 128) (flags-of (n)) (put 𝓤 H A i (‵ (cell fullShare (raisedIn h n) b o)) Γ)
+    raised-stored t i {b} {o} h n f e = store-in t i (subst (λ (j : Item 𝓤). Part K W j fullShare (X′.mir) b (o + 0 + 128) (flags-of (h .timer .flags)) (λ u. ‵ (valued fullShare b o (with-raised h u)))) (sym e) (raised-part t h)) (LL.lawful X.the-type X′.the-laws 𝓤 H A W .typed (n) _ (f) .0)
+
+    pub routed-stored : K → (i : ℕ) {b o : ℕ} (h : Held) (n : Bool) → nth 𝓤 H A i Γ ≡ ‵ (cell fullShare h b o) → Writes K W Γ (tyBool) b (o + 0 + 160 + 18) (vbool (n)) (put 𝓤 H A i (‵ (cell fullShare (routedIn h n) b o)) Γ)
+    routed-stored t i {b} {o} h n e = store-in t i (subst (λ (j : Item 𝓤). Part K W j fullShare (tyBool) b (o + 0 + 160 + 18) (vbool (h .timer .halts .routed)) (λ u. ‵ (valued fullShare b o (with-routed h u)))) (sym e) (routed-part t h)) (tt, tt)
 
     pub counter-read : K → (i : ℕ) {q : Share} {b o : ℕ} (h : Held) → nth 𝓤 H A i Γ ≡ ‵ (cell q h b o) → Reads K W Γ (Y′.mir) b (o + 0 + 56) (counter-of (h .timer .counter))
     counter-read t i {q} {b} {o} h e = look-in t i (subst (λ (j : Item 𝓤). Part K W j q (Y′.mir) b (o + 0 + 56) (counter-of (h .timer .counter)) (λ u. ‵ (valued q b o (with-counter h u)))) (sym e) (counter-part t h))

@@ -9,12 +9,12 @@ use Rattle.answers.specs.Answers.{Told, Tells}
 use Rattle.timer.specs.declared.calls.Call.{Call}
 use Rattle.timer.specs.Claims.{Request, told, outcomes, last}
 use Rattle.timer.proofs.Alike.{alike}
-use Rattle.shell.specs.declared.asked.Asked.{Asked}
+use Rattle.serving.specs.declared.asked.Asked.{Asked}
 use Rattle.held.specs.declared.reply.Reply.{Reply}
 use Rattle.held.specs.declared.state.Held.{Held}
 use Rattle.held.specs.Reply.{Serves}
-use Rattle.shell.specs.declared.asked.Wanted.the-variants as wanted
-use Rattle.shell.specs.Numbers.{callOf, answeredTo}
+use Rattle.serving.specs.declared.asked.Wanted.the-variants as wanted
+use Rattle.serving.specs.Asked.{callOf, answeredTo}
 use Rattle.shell.proofs.Said.{values-back}
 use Rattle.shell.specs.Histories.{heard, replied, asking, History, nothing, called, lent, exported, unnamed, served, CodeIsRun}
 

@@ -2,7 +2,6 @@ pub mod Branches
 pub mod Taken
 pub mod Cells
 pub mod Histories
-pub mod Past
 pub mod Places
 pub mod Raws
 pub mod Replied

@@ -14,14 +14,14 @@ use Rattle.answers.specs.declared.Outcome.{Outcome}
 use Rattle.answers.specs.Answers.{Values, refused, none, byte, event, reached, paused, Told, Tells, numberOf, valuesOf}
 use Rattle.timer.specs.declared.calls.Call.{Call}
 use Rattle.timer.specs.Claims.{Request, told, outcomes, last}
-use Rattle.shell.specs.declared.asked.Asked.{Asked}
+use Rattle.serving.specs.declared.asked.Asked.{Asked}
 use Rattle.held.specs.declared.reply.Reply.{Reply}
 use Rattle.held.specs.declared.state.Held.{Held}
 use Rattle.held.specs.Reply.{Serves}
-use Rattle.shell.specs.declared.asked.Wanted.the-variants as wanted
+use Rattle.serving.specs.declared.asked.Wanted.the-variants as wanted
 use Rattle.shell.specs.declared.lent.Told.{Told as Lent}
 use Rattle.shell.specs.Lent.{Leaves}
-use Rattle.shell.specs.Numbers.{callOf, answeredTo}
+use Rattle.serving.specs.Asked.{callOf, answeredTo}
 
 -- what the code's outcome and the area after it say, in 01's terms
 abbrev pub heard : Outcome → List ℕ → Told

@@ -1,15 +1,8 @@
 // What Rust and C call.
 
-use crate::asked::Asked;
-use crate::asked::Wanted;
-use answers::Outcome;
-use answers::refused;
 use config::Config;
 use counter::state::Timer;
-use dispatch::call;
-use held::calls::Called;
 use held::calls::advance;
-use held::calls::holding;
 use held::quick::clearing;
 use held::quick::counting;
 use held::quick::nexting;
@@ -22,6 +15,10 @@ use held::state::Held;
 use held::state::held_of;
 use held::write::buffering;
 use held::write::way_of;
+use serving::asked::Asked;
+use serving::looking::looking;
+use serving::steps::step;
+use serving::writing::writing;
 use tick::distance::Distance;
 use time::units::Cycle;
 ghost use Prim.Native.Nat.{_-_, _≤_, _^_};
@@ -29,7 +26,6 @@ ghost use mathlib.Core.Bool.{true, false};
 ghost use mathlib.Core.Path.{_≡_};
 ghost use lib.Dec.{eqb, ltb};
 ghost use lib.ListN.{length};
-ghost use Rattle.answers.specs.Answers.{Tells};
 ghost use Rattle.counter.specs.Fresh.{startedOf};
 ghost use Rattle.tick.specs.Distance.{distanceOf};
 ghost use Rattle.counter.specs.Setting.{settingOf, movingOf};
@@ -42,38 +38,15 @@ ghost use Rattle.held.specs.Quick.{refusing, acceptedIn};
 ghost use Rattle.held.specs.Reply.{Serves, Served, countLow};
 ghost use Rattle.held.specs.Rise.{strikesOf};
 ghost use Rattle.held.specs.Write.{wayOf, Waits, Latches, Stores};
-ghost use Rattle.shell.specs.Numbers.{callOf, shape, answeredTo, Begins, High};
+ghost use Rattle.serving.specs.Asked.{callOf, answeredTo};
+ghost use Rattle.serving.specs.Writing.{Takes};
+ghost use Rattle.shell.specs.Numbers.{shape, Begins, High, Sees, Rewritten};
 
 // The refusal's number, 0 for none, and the timer.
 #[repr(C)]
 pub struct Begun {
     pub number: u8,
     pub timer: Held,
-}
-
-// Any call, by its number.
-fn any(t: Timer, asked: Asked, area: &mut [u8]) -> Outcome
-    requires { ⌜ Valid t ⌝ }
-    ensures { λ r. ⌜ Tells (answeredTo t (callOf asked) (asked .cycle) (now (area .entry))) r (now (area .exit)) ⌝ }
-{
-    let wanted = asked.call();
-    match wanted {
-        Wanted::Known(c) => call(t, c, Cycle(asked.cycle), area),
-        Wanted::Unknown => refused(t, 255),
-    }
-}
-
-// A call by value: its number becomes the call, and its answer numbers.
-pub fn step(h: Held, asked: Asked, area: &mut [u8]) -> Called
-    requires { ⌜ Kept h ⌝ }
-    ensures { λ r. ⌜ Serves (answeredTo (h .timer) (callOf asked) (asked .cycle) (now (area .entry))) (r .held) (r .reply) (now (area .exit)) ⌝ }
-{
-    let kind = asked.kind;
-    let t = h.timer;
-    match kind {
-        0 => advance(h, asked.cycle, area),
-        _ => holding(any(t, asked, area)),
-    }
 }
 
 // The bytes that a held timer takes, and the multiple of which its address must be.
@@ -126,15 +99,52 @@ pub extern "C" fn paddlemauve_distance(t: Timer) -> Distance
     t.distance()
 }
 
-// Any call on a lent timer.
-#[no_mangle]
-pub extern "C" fn paddlemauve_call(t: &mut Held, asked: Asked, area: &mut [u8]) -> Reply
+// Whether a call is done, and then its reply.
+pub struct Seen {
+    pub done: bool,
+    pub reply: Reply,
+}
+
+// A call that leaves what is kept changes a few parts alone.
+fn look(t: &mut Held, asked: Asked) -> Seen
+    requires { ⌜ Kept (now t) ⌝ }
+    ensures { λ r. ⌜ Sees (now (t .entry)) (callOf asked) (asked .cycle) (now (t .exit)) r ⌝ }
+{
+    let a = looking(*t, asked);
+    t.timer.counter = a.counter;
+    t.timer.clock = a.clock;
+    t.timer.registers.temp = a.temp;
+    t.timer.flags = a.flags;
+    t.timer.halts.routed = a.routed;
+    t.scene.timsk = a.flags.timsk;
+    Seen {
+        done: a.done,
+        reply: a.reply,
+    }
+}
+
+// Any call by value, and what is kept worked out anew.
+fn anew(t: &mut Held, asked: Asked, area: &mut [u8]) -> Reply
     requires { ⌜ Kept (now t) ⌝ }
     ensures { λ r. ⌜ Serves (answeredTo (now (t .entry) .timer) (callOf asked) (asked .cycle) (now (area .entry))) (now (t .exit)) r (now (area .exit)) ⌝ }
 {
     let s = step(*t, asked, area);
     *t = s.held;
     s.reply
+}
+
+// Any call on a lent timer.
+#[no_mangle]
+pub extern "C" fn paddlemauve_call(t: &mut Held, asked: Asked, area: &mut [u8]) -> Reply
+    requires { ⌜ Kept (now t) ⌝ }
+    ensures { λ r. ⌜ Serves (answeredTo (now (t .entry) .timer) (callOf asked) (asked .cycle) (now (area .entry))) (now (t .exit)) r (now (area .exit)) ⌝ }
+{
+    let a = look(t, asked);
+    if a.done {
+        return a.reply;
+    } else {
+        return anew(t, asked, area);
+    }
 }
 
 // Time passes up to a cycle below the next event.
@@ -233,12 +243,24 @@ fn buffer(t: &mut Held, place: u8, value: u8, cycle: u64) -> Reply
     a.reply
 }
 
-// Any write but to a high byte: what goes neither way goes by value, and what is kept is worked out anew.
-fn lower(t: &mut Held, cycle: u64, area: &mut [u8], address: u16, value: u8, way: u8) -> Reply
-    requires { ⌜ (Kept (now t)) × (way ≡ wayOf (now t) address cycle) × (way ≡ 1 → ⊥) ⌝ }
+// Any register but a high byte, below the next event: what is kept is worked out anew.
+fn rewrite(t: &mut Held, cycle: u64, area: &mut [u8], place: u8, value: u8) -> Reply
+    requires { ⌜ (Kept (now t)) × Takes (now t) place cycle ⌝ }
+    ensures { λ r. ⌜ Rewritten (now (t .entry)) place value cycle (now (area .entry)) (now (t .exit)) r (now (area .exit)) ⌝ }
+{
+    let s = writing(*t, place, value, cycle, area);
+    *t = s.held;
+    s.reply
+}
+
+// A write that waits in no buffer; one that is refused is a call like any other.
+fn upper(t: &mut Held, cycle: u64, area: &mut [u8], address: u16, value: u8, way: u8) -> Reply
+    requires { ⌜ (Kept (now t)) × (way ≡ wayOf (now t) address cycle) × (16 ≤ way) ⌝ }
     ensures { λ r. ⌜ Serves (answered ticks (now (t .entry) .timer) (Call.Write address value) cycle (now (area .entry))) (now (t .exit)) r (now (area .exit)) ⌝ }
 {
-    if way == 0 {
+    if way < 32 {
+        return rewrite(t, cycle, area, way - 16, value);
+    } else {
         let asked = Asked {
             kind: 4,
             pin: 0,
@@ -246,9 +268,19 @@ fn lower(t: &mut Held, cycle: u64, area: &mut [u8], address: u16, value: u8, way
             address,
             cycle,
         };
-        return paddlemauve_call(t, asked, area);
-    } else {
+        return anew(t, asked, area);
+    }
+}
+
+// Any write but to a high byte.
+fn lower(t: &mut Held, cycle: u64, area: &mut [u8], address: u16, value: u8, way: u8) -> Reply
+    requires { ⌜ (Kept (now t)) × (way ≡ wayOf (now t) address cycle) × (way ≡ 1 → ⊥) ⌝ }
+    ensures { λ r. ⌜ Serves (answered ticks (now (t .entry) .timer) (Call.Write address value) cycle (now (area .entry))) (now (t .exit)) r (now (area .exit)) ⌝ }
+{
+    if way < 16 {
         return buffer(t, way, value, cycle);
+    } else {
+        return upper(t, cycle, area, address, value, way);
     }
 }
 

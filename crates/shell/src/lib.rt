@@ -1,6 +1,5 @@
 // The bench shell: calls on a lent timer, for Rattle, and for Rust and C, and a watchdog for these.
 
-pub mod asked;
 pub mod boards;
 pub mod exports;
 pub mod lent;

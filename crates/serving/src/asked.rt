@@ -2,7 +2,7 @@
 
 use timer::calls::Call;
 ghost use mathlib.Core.Path.{_≡_};
-ghost use Rattle.shell.specs.Numbers.{callOf};
+ghost use Rattle.serving.specs.Asked.{callOf};
 
 // kind is the call's place in `timer::calls::Call`, from 0 on; of the arguments it takes those that it has.
 #[repr(C)]

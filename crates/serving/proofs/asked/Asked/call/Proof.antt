@@ -1,10 +1,9 @@
-use Rattle.orders.proofs.Obeyed.{further}
-use Rattle.shell.proofs.Past.{known-past}
-use Rattle.shell.specs.Numbers.{calls}
+use Rattle.serving.proofs.Past.{known-past, further}
+use Rattle.serving.specs.Asked.{calls}
 use mathlib.Core.Path.{sym}
 use native.Mathlib.Omega.{arith}
-use Rattle.shell.proofs.asked.Asked.call.Statement.{statement}
-use Rattle.shell.proofs.asked.Asked.call.Tie as tie
+use Rattle.serving.proofs.asked.Asked.call.Statement.{statement}
+use Rattle.serving.proofs.asked.Asked.call.Tie as tie
 
 returns : tie.Need-returns
 returns c = rw (c .match .keys1)

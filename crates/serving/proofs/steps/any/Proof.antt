@@ -1,7 +1,7 @@
-use Rattle.shell.proofs.Replied.{known-tells, unknown-tells}
+use Rattle.serving.proofs.Replied.{known-tells, unknown-tells}
 use borrow.Author.Needs.{needs}
-use Rattle.shell.proofs.exports.any.Statement.{statement}
-use Rattle.shell.proofs.exports.any.Tie as tie
+use Rattle.serving.proofs.steps.any.Statement.{statement}
+use Rattle.serving.proofs.steps.any.Tie as tie
 
 returns : tie.Need-returns
 returns c = known-tells _ (c .before .before .before .before .before .before .before .before .before .args .asked) _ _ _ _ _ (c .before .before .before .before .before .before .before .call .ensures) (c .before .before .before .before .before .wanted .given .1) (c .before .before .call2 .ensures)

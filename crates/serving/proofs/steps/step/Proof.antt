@@ -2,10 +2,10 @@ use mathlib.Core.Path.{ap}
 use borrow.Author.Needs.{needs}
 use Rattle.timer.specs.declared.calls.Call.the-variants as call
 use Rattle.held.proofs.Answers.{told-serves}
-use Rattle.shell.specs.Numbers.{calls, known}
-use Rattle.shell.proofs.Replied.{known-serves}
-use Rattle.shell.proofs.exports.step.Statement.{statement}
-use Rattle.shell.proofs.exports.step.Tie as tie
+use Rattle.serving.specs.Asked.{calls, known}
+use Rattle.serving.proofs.Replied.{known-serves}
+use Rattle.serving.proofs.steps.step.Statement.{statement}
+use Rattle.serving.proofs.steps.step.Tie as tie
 
 holding-requires : tie.Need-holding-requires
 holding-requires c κs = c .before .before .any .ensures .valid

@@ -1,0 +1,7 @@
+pub mod Past
+pub mod Modes
+pub mod Replied
+pub mod Laws
+pub mod Works
+pub mod Looks
+pub mod Writes
