@@ -1,1 +1,4 @@
+pub mod Begun
 pub mod Listed
+pub mod Reported
+pub mod Shape

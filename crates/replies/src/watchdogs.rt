@@ -2,11 +2,15 @@
 
 use oscillator::next::Next;
 use oscillator::state::Watchdog;
+use time::units::Cycle;
+use watchdog::calls;
 use watchdog::outcome::Answer;
 use watchdog::outcome::Outcome;
 ghost use mathlib.Core.Path.{_≡_};
+ghost use Rattle.watchdog.specs.declared.calls.Call.{Call};
+ghost use Rattle.oscillator.specs.State.{Valid};
 ghost use Rattle.watchdog.specs.Outcome.{numberOf, valuesOf};
-ghost use Rattle.replies.specs.Watchdogs.{reportOf, watchedOf};
+ghost use Rattle.replies.specs.Watchdogs.{reportOf, watchedOf, Reported};
 
 // number is the refusal's, 0 for none. what is 0 for no value, 1 for WDTCSR, 2 for the next event's cycle, 3 for none to
 // come, 4 for the sync cycle of an advance that stopped; value has it. written counts the area's bytes.
@@ -66,4 +70,12 @@ pub fn reported(o: Outcome) -> Watched
         watchdog,
         report: Report::of(o),
     }
+}
+
+// WDTCSR is written.
+pub fn written(w: Watchdog, value: u8, cycle: u64) -> Watched
+    requires { ⌜ Valid w ⌝ }
+    ensures { λ r. ⌜ Reported w (Call.Write value) cycle r ⌝ }
+{
+    reported(calls::write(w, value, Cycle(cycle)))
 }

@@ -4,9 +4,6 @@ pub mod Cells
 pub mod Histories
 pub mod Places
 pub mod Raws
-pub mod Replied
-pub mod Reported
 pub mod Runs
 pub mod Said
 pub mod Shape
-pub mod Walk

@@ -19,8 +19,8 @@ use Rattle.held.specs.declared.reply.Reply.{Reply}
 use Rattle.held.specs.declared.state.Held.{Held}
 use Rattle.held.specs.Reply.{Serves}
 use Rattle.serving.specs.declared.asked.Wanted.the-variants as wanted
-use Rattle.shell.specs.declared.lent.Told.{Told as Lent}
-use Rattle.shell.specs.Lent.{Leaves}
+use Rattle.lending.specs.declared.Told.{Told as Lent}
+use Rattle.lending.specs.Lent.{Leaves}
 use Rattle.serving.specs.Asked.{callOf, answeredTo}
 
 -- what the code's outcome and the area after it say, in 01's terms

@@ -1,4 +1,3 @@
-pub mod Lent
 pub mod Numbers
 pub mod Histories
 pub mod Runs

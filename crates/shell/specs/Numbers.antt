@@ -3,35 +3,22 @@ use Prim.Native.Nat.{ℕ}
 use mathlib.Core.Bool.{true, false}
 use mathlib.Core.List.{List}
 use mathlib.Core.Path.{_≡_}
-use Rattle.counter.specs.declared.fresh.Started.{Started}
 use Rattle.counter.specs.declared.state.Timer.{Timer}
 use Rattle.passage.specs.Passage.{ticks}
 use Rattle.config.specs.Config.{placeOf}
 use Rattle.serving.specs.declared.asked.Wanted.{Wanted}
 use Rattle.serving.specs.Asked.{answeredTo}
-use Rattle.shell.specs.declared.exports.Begun.{Begun}
 use Rattle.shell.specs.declared.exports.Seen.{Seen}
-use Rattle.shell.specs.declared.exports.Shape.{Shape}
 use Rattle.held.specs.declared.state.Held.{Held}
 use Rattle.held.specs.declared.reply.Reply.{Reply}
-use Rattle.held.specs.Held.{Kept}
 use Rattle.held.specs.Reply.{Serves, countHigh}
+use Rattle.replies.specs.declared.shapes.Shape.{Shape}
 use Rattle.timer.specs.Calls.{answered}
 use Rattle.timer.specs.declared.calls.Call.the-variants as call
 
--- the shape of a held timer
-abbrev pub shape : Shape
-shape = record { size = 248; align = 8 }
-
--- and of a board
+-- the shape of a board
 abbrev pub boardShape : Shape
 boardShape = record { size = 1600; align = 8 }
-
--- the timer after a start, and the refusal's number
-pub record Begins (s : Started) (r : Begun) : Type 0 where
-  pub number : r .number ≡ s .number
-  pub timer : r .timer .timer ≡ s .timer
-  pub kept : Kept (r .timer)
 
 -- the high byte of TCNTn, which leaves every area as it is
 abbrev pub High : Timer → ℕ → Held → Reply → Type 0

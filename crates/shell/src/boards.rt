@@ -1,10 +1,10 @@
 // The board for Rust and C: any order, on a lent board.
 
-use crate::exports::Shape;
 use board::state::Board;
 use orders::Ordered;
 use orders::Replied;
 use orders::step;
+use replies::shapes::Shape;
 ghost use mathlib.Core.Path.{_≡_};
 ghost use Rattle.board.specs.State.{freshBoard, Valid};
 ghost use Rattle.board.specs.Calls.{areasOf};

@@ -15,12 +15,15 @@ use held::state::Held;
 use held::state::held_of;
 use held::write::buffering;
 use held::write::way_of;
+use replies::shapes::Shape;
+use replies::shapes::held_shape;
+use replies::starts::Begun;
+use replies::starts::start;
 use serving::asked::Asked;
 use serving::looking::looking;
 use serving::steps::step;
 use serving::writing::writing;
 use tick::distance::Distance;
-use time::units::Cycle;
 ghost use Prim.Native.Nat.{_-_, _≤_, _^_};
 ghost use mathlib.Core.Bool.{true, false};
 ghost use mathlib.Core.Path.{_≡_};
@@ -40,31 +43,16 @@ ghost use Rattle.held.specs.Rise.{strikesOf};
 ghost use Rattle.held.specs.Write.{wayOf, Waits, Latches, Stores};
 ghost use Rattle.serving.specs.Asked.{callOf, answeredTo};
 ghost use Rattle.serving.specs.Writing.{Takes};
-ghost use Rattle.shell.specs.Numbers.{shape, Begins, High, Sees, Rewritten};
-
-// The refusal's number, 0 for none, and the timer.
-#[repr(C)]
-pub struct Begun {
-    pub number: u8,
-    pub timer: Held,
-}
-
-// The bytes that a held timer takes, and the multiple of which its address must be.
-#[repr(C)]
-pub struct Shape {
-    pub size: u64,
-    pub align: u64,
-}
+ghost use Rattle.replies.specs.Shapes.{shape};
+ghost use Rattle.replies.specs.Starts.{Begins};
+ghost use Rattle.shell.specs.Numbers.{High, Sees, Rewritten};
 
 // Yields the shape of `Held`, so that a caller can compare its own.
 #[no_mangle]
 pub extern "C" fn paddlemauve_shape() -> Shape
     ensures { λ r. ⌜ r ≡ shape ⌝ }
 {
-    Shape {
-        size: 248,
-        align: 8,
-    }
+    held_shape()
 }
 
 // Yields a fresh timer of a configuration, or refusal 1 beside a timer of the least configuration.
@@ -72,13 +60,7 @@ pub extern "C" fn paddlemauve_shape() -> Shape
 pub extern "C" fn paddlemauve_start(config: Config) -> Begun
     ensures { λ r. ⌜ Begins (startedOf config) r ⌝ }
 {
-    let s = Timer::new(config);
-    let t = s.timer;
-    let timer = held_of(t);
-    Begun {
-        number: s.number,
-        timer,
-    }
+    start(config)
 }
 
 // Yields a timer with what is kept of it, where another call has left the timer alone.

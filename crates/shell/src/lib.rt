@@ -1,8 +1,7 @@
-// The bench shell: calls on a lent timer, for Rattle, and for Rust and C, and a watchdog for these.
+// The bench shell for Rust and C: calls on a lent timer and on a lent board, and a watchdog by value.
 
 pub mod boards;
 pub mod exports;
-pub mod lent;
 pub mod lists;
 pub mod shifts;
 pub mod watchdogs;

@@ -4,7 +4,7 @@ use answers::Answer;
 use counter::state::Timer;
 use time::units::Cycle;
 ghost use Rattle.counter.specs.Valid.{Valid};
-ghost use Rattle.shell.specs.Lent.{Leaves};
+ghost use Rattle.lending.specs.Lent.{Leaves};
 ghost use Rattle.passage.specs.Passage.{ticks};
 ghost use Rattle.timer.specs.Calls.{answered};
 ghost use Rattle.timer.specs.declared.calls.Call.{Call};

@@ -1,4 +1,4 @@
--- `shell::lent::reset` meets its contract: the walk of `Walk.antt`, at the core `timer::calls::reset`.
+-- `lending::reset` meets its contract: the walk of `Walk.antt`, at the core `elapse::reset`.
 -- Assumes nothing.
 use mathlib.Core.Path.{_≡_, refl}
 use mir.Syntax.{Fn}
@@ -10,15 +10,15 @@ use Rattle.counter.specs.Valid.{Valid}
 use Rattle.answers.specs.Answers.{Tells}
 use Rattle.timer.specs.Calls.{answered}
 use Rattle.timer.specs.declared.calls.Call.{Call}
-use Rattle.shell.proofs.Walk.{lentFn, lent-meets}
+use Rattle.lending.proofs.Walk.{lentFn, lent-meets}
 use Rattle.elapse.proofs.reset as core
 use Rattle.elapse.proofs.reset.Symbol as core-def
 use Rattle.elapse.proofs.reset.Symbol.{name as #core}
 use Rattle.elapse.proofs.reset.Met as core-thm
-use Rattle.shell.proofs.lent.reset.Key.{name as #lent}
-use Rattle.shell.proofs.lent.reset as lent
-use Rattle.shell.proofs.lent.reset.Statement as stated
-use Rattle.shell.proofs.lent.reset.Code as code
+use Rattle.lending.proofs.reset.Key.{name as #lent}
+use Rattle.lending.proofs.reset as lent
+use Rattle.lending.proofs.reset.Statement as stated
+use Rattle.lending.proofs.reset.Code as code
 
 -- the walk is of this function's code: where it is not, the error stands here
 code-is : _≡_ {A = Fn} code.function (lentFn #core)

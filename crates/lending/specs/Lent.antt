@@ -2,7 +2,7 @@
 use mathlib.Core.List.{List}
 use Prim.Native.Nat.{ℕ}
 use Rattle.counter.specs.declared.state.Timer.{Timer}
-use Rattle.shell.specs.declared.lent.Told.{Told as Reply}
+use Rattle.lending.specs.declared.Told.{Told as Reply}
 use Rattle.answers.specs.Answers.{Told, Tells}
 
 -- the timer left, the answer, the bytes written and the area are the core's

@@ -1,4 +1,4 @@
--- `shell::lent::advance` meets its contract: the walk of `Walk.antt`, at the core `timer::calls::advance`.
+-- `lending::advance` meets its contract: the walk of `Walk.antt`, at the core `elapse::advance`.
 -- Assumes nothing.
 use mathlib.Core.Path.{_≡_, refl}
 use mir.Syntax.{Fn}
@@ -10,15 +10,15 @@ use Rattle.counter.specs.Valid.{Valid}
 use Rattle.answers.specs.Answers.{Tells}
 use Rattle.timer.specs.Calls.{answered}
 use Rattle.timer.specs.declared.calls.Call.{Call}
-use Rattle.shell.proofs.Walk.{lentFn, lent-meets}
+use Rattle.lending.proofs.Walk.{lentFn, lent-meets}
 use Rattle.elapse.proofs.advance as core
 use Rattle.elapse.proofs.advance.Symbol as core-def
 use Rattle.elapse.proofs.advance.Symbol.{name as #core}
 use Rattle.elapse.proofs.advance.Met as core-thm
-use Rattle.shell.proofs.lent.advance.Key.{name as #lent}
-use Rattle.shell.proofs.lent.advance as lent
-use Rattle.shell.proofs.lent.advance.Statement as stated
-use Rattle.shell.proofs.lent.advance.Code as code
+use Rattle.lending.proofs.advance.Key.{name as #lent}
+use Rattle.lending.proofs.advance as lent
+use Rattle.lending.proofs.advance.Statement as stated
+use Rattle.lending.proofs.advance.Code as code
 
 -- the walk is of this function's code: where it is not, the error stands here
 code-is : _≡_ {A = Fn} code.function (lentFn #core)

@@ -48,7 +48,7 @@ use denote.Exit.{yes}
 use Rattle.counter.specs.declared.state.Timer.{Timer}
 use Rattle.time.specs.declared.units.Cycle.{Cycle}
 use Rattle.answers.specs.declared.Outcome.{Outcome}
-use Rattle.shell.specs.declared.lent.Told.{Told}
+use Rattle.lending.specs.declared.Told.{Told}
 use Rattle.counter.proofs.state.Timer as T
 use Rattle.counter.proofs.state.Timer.Laws as T′
 use Rattle.time.proofs.units.Cycle as N
@@ -57,10 +57,10 @@ use Rattle.answers.proofs.Answer as A
 use Rattle.answers.proofs.Answer.Laws as A′
 use Rattle.answers.proofs.Outcome as D
 use Rattle.answers.proofs.Outcome.Laws as D′
-use Rattle.shell.proofs.lent.Told as E
-use Rattle.shell.proofs.lent.Told.Laws as E′
+use Rattle.lending.proofs.Told as E
+use Rattle.lending.proofs.Told.Laws as E′
 use Rattle.elapse.proofs.advance as core
-use Rattle.shell.proofs.lent.advance as lent
+use Rattle.lending.proofs.advance as lent
 
 -- the MIR, as `rt mir` shows it. A declared type by value is `mir` of its laws, and behind a reference its name
 abbrev timerAt : Ty
