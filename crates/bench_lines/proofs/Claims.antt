@@ -17,7 +17,8 @@ use Rattle.board_lines.proofs.Claims.{sized, short as board-short}
 use Rattle.door_lines.proofs.Claims.{short as door-short}
 use Rattle.list_lines.proofs.Claims.{short as list-short, short-item}
 use Rattle.log_lines.proofs.Claims.{short as log-short}
-use Rattle.script.proofs.Claims.{short-sched, short-pin}
+use Rattle.pin_lines.proofs.Claims.{short-pin}
+use Rattle.sched_lines.proofs.Claims.{short-sched}
 use Rattle.timer_lines.proofs.Claims.{short as timer-short, short-config}
 use Rattle.timer_lines.specs.Named.{names}
 use Rattle.wdt_lines.proofs.Claims.{short as wdt-short}

@@ -7,8 +7,8 @@ use borrow.Author.Tests.{eq-eqb, ne-eqb}
 use lib.Dec.{ltb}
 use Rattle.page.specs.Page.{Puts, unreadableOf}
 use Rattle.page.proofs.Sheets.{then}
-use Rattle.script.specs.Sched.{schedOf, Leaves}
-use Rattle.script.specs.declared.sched_lines.Left as sched
+use Rattle.sched_lines.specs.Sched.{schedOf, Leaves}
+use Rattle.sched_lines.specs.declared.Left as sched
 use Rattle.scheduler.specs.declared.Scheduler.{Scheduler}
 use Rattle.board.specs.Calls.{Areas, areasOf}
 use Rattle.board.specs.declared.outcome.Written.{Written}

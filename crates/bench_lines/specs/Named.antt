@@ -13,7 +13,7 @@ use Rattle.door_lines.specs.Rules.{doorLine}
 use Rattle.list_lines.specs.Items.{itemLine}
 use Rattle.list_lines.specs.Lists.{writesLine}
 use Rattle.log_lines.specs.Logged.{logLine}
-use Rattle.script.specs.PinLines.{pinLine}
+use Rattle.pin_lines.specs.PinLines.{pinLine}
 use Rattle.timer_lines.specs.Made.{configLine}
 use Rattle.timer_lines.specs.Named.{names, timerLine}
 use Rattle.wdt_lines.specs.Called.{wdtLine}

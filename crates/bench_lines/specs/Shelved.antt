@@ -5,7 +5,7 @@ use mathlib.Core.List.{List, [], _∷_, _++_}
 use mathlib.Core.Path.{_≡_}
 use lib.Dec.{eqb, ltb}
 use Rattle.page.specs.Page.{Puts, unreadableOf}
-use Rattle.script.specs.Sched.{schedOf}
+use Rattle.sched_lines.specs.Sched.{schedOf}
 use Rattle.scheduler.specs.declared.Scheduler.{Scheduler}
 use Rattle.board.specs.Calls.{Areas, areasOf}
 use Rattle.board.specs.declared.outcome.Written.{Written}

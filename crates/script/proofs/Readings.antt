@@ -5,8 +5,8 @@ use Rattle.few.specs.Few.{also, has, distinct, within}
 use Rattle.figures.specs.Figures.{codes}
 use Rattle.words.specs.Words.{before, firstFrom, onto, begun, words, same, placeIn, splitAt}
 use Rattle.words.specs.Numbers.{digitOf, allDigits, extended, wellFormed, limited, numeralOf}
-use Rattle.script.specs.Pairs.{paired, stepped}
-use Rattle.script.specs.Keys.{namedOf, optionalOf, writtenOf, setOf, occurs, partsFrom, compareOf, takenOf, sayingOf}
+use Rattle.pairs.specs.Pairs.{paired, stepped}
+use Rattle.config_keys.specs.Keys.{namedOf, optionalOf, writtenOf, setOf, occurs, partsFrom, compareOf, takenOf, sayingOf}
 use Rattle.script.specs.Presets.{m2560Text, olderText, presetKeys}
 use Rattle.script.specs.Configs.{thirdOf, configOf}
 use Rattle.script.specs.Readings.{Ten}

@@ -7,8 +7,8 @@ use Rattle.figures.specs.Figures.{text}
 use Rattle.m328p.specs.Timers.{timer0, timer1, timer2}
 use Rattle.words.specs.Words.{placeOf}
 use Rattle.words.specs.Numbers.{among}
-use Rattle.script.specs.declared.keys.Keys.{Keys}
-use Rattle.script.specs.Keys.{keysOf, sayingOf}
+use Rattle.config_keys.specs.declared.Keys.{Keys}
+use Rattle.config_keys.specs.Keys.{keysOf, sayingOf}
 
 -- the place of a preset's name in their list
 abbrev pub presetOf : List ℕ → ℕ

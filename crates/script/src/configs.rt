@@ -1,13 +1,13 @@
 // The configuration that a line gives: by all its keys, or by a preset's name and the keys that differ.
 
-use crate::keys::ABSENT;
-use crate::keys::Keys;
 use crate::presets::keys;
 use crate::presets::preset;
 use config::Capture;
 use config::Compare;
 use config::Config;
 use config::Wire;
+use config_keys::ABSENT;
+use config_keys::Keys;
 use words::MISSING_WORD;
 use words::UNKNOWN_NAME;
 use words::find;

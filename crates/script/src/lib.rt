@@ -1,7 +1,4 @@
-// What a script says that needs no timer: the lines for pins and for the scheduler, and the configuration that a timer is made of.
+// The configuration that a line of a script gives: by all its keys, or by the name of a preset and the keys that differ.
 
 pub mod configs;
-mod keys;
-pub mod pin_lines;
 mod presets;
-pub mod sched_lines;

@@ -1,13 +1,13 @@
 // The timers of the sheets: data addresses, TIFR bits, pins of the package, PRR1:PRR0, and the sleep modes in which the timer
 // keeps counting.
 
-use crate::keys::Keys;
+use config_keys::Keys;
 use m328p::timer0;
 use m328p::timer1;
 use m328p::timer2;
 use words::place;
 ghost use mathlib.Core.Path.{_≡_};
-ghost use Rattle.script.specs.Keys.{keysOf};
+ghost use Rattle.config_keys.specs.Keys.{keysOf};
 ghost use Rattle.script.specs.Presets.{presetOf, m2560Text, olderText, presetKeys};
 
 // The place of a preset's name in their list.

@@ -1,7 +1,7 @@
 -- `script::configs::named` meets its contract.
 use Rattle.script.proofs.Naming.{preset-missing, preset-unknown, preset-known}
-use Rattle.script.specs.Keys.{stoppedOf, overOf}
-use Rattle.script.specs.declared.keys.Keys.{Keys}
+use Rattle.config_keys.specs.Keys.{stoppedOf, overOf}
+use Rattle.config_keys.specs.declared.Keys.{Keys}
 use mathlib.Core.Path.{sym, ap, ap₂, _∙_}
 use borrow.Author.Needs.{needs}
 use Rattle.script.proofs.configs.named.Statement.{statement}

@@ -1,6 +1,6 @@
 -- `script::configs::of_keys` meets its contract.
 use Rattle.script.specs.Configs.{givenOf}
-use Rattle.script.specs.Keys.{wholeOf}
+use Rattle.config_keys.specs.Keys.{wholeOf}
 use mathlib.Core.Path.{ap, _∙_}
 use borrow.Author.Needs.{needs}
 use Rattle.script.proofs.configs.of_keys.Statement.{statement}

@@ -1,6 +1,6 @@
 -- `script::presets::keys` meets its contract.
 use Rattle.script.specs.Presets.{presetKeys}
-use Rattle.script.specs.Keys.{sayingOf}
+use Rattle.config_keys.specs.Keys.{sayingOf}
 use Rattle.words.proofs.Numerals.{among-in, among-above}
 use borrow.Author.Tests.{ne-eqb}
 use native.Mathlib.Omega.{arith}

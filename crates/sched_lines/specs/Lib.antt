@@ -1,0 +1,2 @@
+pub mod Sched
+pub mod Claims
