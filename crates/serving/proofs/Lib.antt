@@ -4,4 +4,3 @@ pub mod Replied
 pub mod Laws
 pub mod Works
 pub mod Looks
-pub mod Writes

@@ -1,4 +1,3 @@
 pub mod Asked
 pub mod Asks
 pub mod Looking
-pub mod Writing

@@ -1,7 +1,6 @@
-// Any call on a held timer, by value: one that leaves what is kept changes a few parts alone, and a write begins with what is kept.
+// Any call on a held timer, by value: one that leaves what is kept changes a few parts alone.
 
 pub mod asked;
 mod asks;
 pub mod looking;
 pub mod steps;
-pub mod writing;

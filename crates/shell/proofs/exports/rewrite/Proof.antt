@@ -45,7 +45,7 @@ use Rattle.held.specs.declared.state.Held.{Held}
 use Rattle.held.specs.declared.calls.Called.{Called}
 use Rattle.held.specs.declared.reply.Reply.{Reply}
 use Rattle.held.specs.Held.{Kept}
-use Rattle.serving.specs.Writing.{Takes}
+use Rattle.rewriting.specs.Writing.{Takes}
 use Rattle.shell.specs.Numbers.{Rewritten}
 use Rattle.held.proofs.state.Held as T
 use Rattle.held.proofs.state.Held.Laws as T′
@@ -53,10 +53,10 @@ use Rattle.held.proofs.reply.Reply as E
 use Rattle.held.proofs.reply.Reply.Laws as E′
 use Rattle.held.proofs.calls.Called as D
 use Rattle.held.proofs.calls.Called.Laws as D′
-use Rattle.serving.proofs.writing.writing as core
-use Rattle.serving.proofs.writing.writing.Symbol as core-def
-use Rattle.serving.proofs.writing.writing.Symbol.{name as #core}
-use Rattle.serving.proofs.writing.writing.Met as core-thm
+use Rattle.rewriting.proofs.writing as core
+use Rattle.rewriting.proofs.writing.Symbol as core-def
+use Rattle.rewriting.proofs.writing.Symbol.{name as #core}
+use Rattle.rewriting.proofs.writing.Met as core-thm
 use Rattle.shell.proofs.exports.rewrite.Key.{name as #lent}
 use Rattle.shell.proofs.exports.rewrite as lent
 use Rattle.shell.proofs.exports.rewrite.Statement as stated
@@ -199,4 +199,4 @@ rewrite-spec 𝓤 H 𝓜 𝓖 𝓡 =
     entered 𝓤 H (tripleOf 𝓤 H (𝓖 .A) lent.signature (lent.spec 𝓤 H (𝓖 .A) (𝓜 .mem) (𝓡 .run)))
     (tables 𝓤 H 𝓜 𝓡 code.env .C) (tables 𝓤 H 𝓜 𝓡 code.env .Λ) #lent code.function (code.unfolded 𝓤 H 𝓜 𝓡)
     (lent-meets 𝓤 H (𝓖 .A) (givenOf 𝓤 H 𝓜 𝓖) (𝓜 .mem) (𝓡 .run) (tablesOf 𝓤 H 𝓜 (tables 𝓤 H 𝓜 𝓡 code.env))
-    (cited 𝓤 H (Core 𝓤 H (𝓖 .A) (𝓜 .mem) (𝓡 .run)) 𝓜 𝓡 code.env #core core-def.routine code.calls-serving·writing·writing (core-thm.met 𝓤 H 𝓜 𝓖 𝓡)))
+    (cited 𝓤 H (Core 𝓤 H (𝓖 .A) (𝓜 .mem) (𝓡 .run)) 𝓜 𝓡 code.env #core core-def.routine code.calls-rewriting·writing (core-thm.met 𝓤 H 𝓜 𝓖 𝓡)))

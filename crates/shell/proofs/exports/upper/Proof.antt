@@ -45,7 +45,7 @@ use Rattle.held.specs.Reply.{Serves}
 use Rattle.config.specs.Config.{placeOf}
 use Rattle.held.specs.Write.{wayOf}
 use Rattle.held.proofs.Stores.{takes}
-use Rattle.serving.specs.Writing.{Takes}
+use Rattle.rewriting.specs.Writing.{Takes}
 use Rattle.shell.specs.Numbers.{Rewritten}
 use Rattle.serving.specs.declared.asked.Asked.{Asked}
 use Rattle.serving.specs.Asked.{callOf, answeredTo}

@@ -1,10 +1,10 @@
 use Prim.Native.Nat.{_<_}
 use mathlib.Core.Path.{_≡_, sym, _∙_}
 use Rattle.held.proofs.Answers.{told-serves}
-use Rattle.serving.proofs.Writes.{files, force-syncs, passes, left-valid}
+use Rattle.rewriting.proofs.Writes.{files, force-syncs, passes, left-valid}
 use borrow.Author.Needs.{needs}
-use Rattle.serving.proofs.writing.forcing.Statement.{statement}
-use Rattle.serving.proofs.writing.forcing.Tie as tie
+use Rattle.rewriting.proofs.forcing.Statement.{statement}
+use Rattle.rewriting.proofs.forcing.Tie as tie
 
 small : (c : tie.Start) → c .args .value < 256
 small c = c .good .1 .0 .1

@@ -1,9 +1,9 @@
 use Prim.Native.Nat.{_<_}
 use Rattle.held.proofs.Answers.{told-serves}
-use Rattle.serving.proofs.Writes.{commit-tells, passes, left-valid}
+use Rattle.rewriting.proofs.Writes.{commit-tells, passes, left-valid}
 use borrow.Author.Needs.{needs}
-use Rattle.serving.proofs.writing.committing.Statement.{statement}
-use Rattle.serving.proofs.writing.committing.Tie as tie
+use Rattle.rewriting.proofs.committing.Statement.{statement}
+use Rattle.rewriting.proofs.committing.Tie as tie
 
 small : (c : tie.Start) → c .args .value < 256
 small c = c .good .1 .1 .0 .1

@@ -1,6 +1,5 @@
 // A register written below the next event: time has passed by what is kept, and what is kept is then worked out anew.
 
-use crate::looking::passed;
 use answers::Answer;
 use answers::done;
 use answers::logged;
@@ -10,13 +9,14 @@ use held::calls::holding;
 use held::reply::Reply;
 use held::state::Held;
 use held::state::held_of;
+use serving::looking::passed;
 use time::units::Cycle;
 use wave::kinds::non_pwm;
 ghost use mathlib.Core.Bool.{true, false};
 ghost use mathlib.Core.Path.{_≡_};
 ghost use Prim.Native.Nat.{_≤_, _<_};
 ghost use Rattle.held.specs.Held.{Kept};
-ghost use Rattle.serving.specs.Writing.{Takes, Rewrites};
+ghost use Rattle.rewriting.specs.Writing.{Takes, Rewrites};
 
 // A low byte: it writes no record.
 fn committing(h: Held, place: u8, value: u8, cycle: u64, area: &mut [u8]) -> Called

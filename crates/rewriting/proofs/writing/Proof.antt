@@ -2,10 +2,10 @@ use Prim.Native.Nat.{ℕ, _≤_}
 use native.Mathlib.Omega.{arith}
 use mathlib.Core.Path.{_≡_, subst}
 use Rattle.held.specs.declared.state.Held.{Held}
-use Rattle.serving.specs.Writing.{Takes}
+use Rattle.rewriting.specs.Writing.{Takes}
 use borrow.Author.Needs.{needs}
-use Rattle.serving.proofs.writing.writing.Statement.{statement}
-use Rattle.serving.proofs.writing.writing.Tie as tie
+use Rattle.rewriting.proofs.writing.Statement.{statement}
+use Rattle.rewriting.proofs.writing.Tie as tie
 
 last : {h : Held} {place cycle : ℕ} → Takes h place cycle → 12 ≤ place → place ≡ 12
 last t l = let m = t .there in omega arith

@@ -1,9 +1,9 @@
 use Prim.Native.Nat.{_<_}
 use Rattle.held.proofs.Answers.{told-serves}
-use Rattle.serving.proofs.Writes.{control-tells, control-turned, passes, left-valid}
+use Rattle.rewriting.proofs.Writes.{control-tells, control-turned, passes, left-valid}
 use borrow.Author.Needs.{needs}
-use Rattle.serving.proofs.writing.controlling.Statement.{statement}
-use Rattle.serving.proofs.writing.controlling.Tie as tie
+use Rattle.rewriting.proofs.controlling.Statement.{statement}
+use Rattle.rewriting.proofs.controlling.Tie as tie
 
 small : (c : tie.Start) → c .args .value < 256
 small c = c .good .1 .1 .0 .1

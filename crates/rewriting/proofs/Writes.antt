@@ -34,10 +34,10 @@ use Rattle.held.specs.Held.{Kept}
 use Rattle.held.specs.Quick.{stilled, Passing}
 use Rattle.held.proofs.Answers.{Timed, refusal-is}
 use Rattle.held.proofs.Stills.{Quiet, quiet-in, still-asks, stored-kept}
 use Rattle.serving.specs.Asks.{asksIn}
 use Rattle.serving.specs.Looking.{refusedBy, stilledIn, passedOf}
-use Rattle.serving.specs.Writing.{Takes}
+use Rattle.rewriting.specs.Writing.{Takes}
 use Rattle.serving.proofs.Laws.{refused-is, passed-ready}
 
 -- ---- the work
 
