@@ -17,7 +17,7 @@ ghost use Rattle.timer.specs.Calls.{answered};
 ghost use Rattle.timer.specs.declared.calls.Call.{Call};
 
 // The place of a high byte.
-fn is_high(place: u8) -> bool
+pub fn is_high(place: u8) -> bool
     ensures { λ r. ⌜ r ≡ isHigh place ⌝ }
 {
     (place <= 9) & (place % 2 == 1)

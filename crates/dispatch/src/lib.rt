@@ -34,7 +34,8 @@ ghost use Rattle.counter.specs.Valid.{Valid};
 ghost use Rattle.answers.specs.Answers.{Tells};
 ghost use Rattle.timer.specs.Calls.{isPin, answered};
 
-fn is_pin(wire: Wire, pin: u8) -> bool
+// Is a pin the one wired.
+pub fn is_pin(wire: Wire, pin: u8) -> bool
     ensures { λ r. ⌜ r ≡ isPin wire pin ⌝ }
 {
     wire.present & (wire.pin == pin)

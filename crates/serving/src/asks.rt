@@ -1,16 +1,17 @@
 // What a call is tested for, and whether time passes before its work.
 
+use access::is_high;
 use capture::captures;
 use capture::ticks_on;
-use config::Wire;
 use counter::state::Timer;
+use dispatch::is_pin;
 use timer::calls::Call;
 ghost use mathlib.Core.Bool.{false, true, not, _&&_, _||_};
 ghost use mathlib.Core.Path.{_≡_};
 ghost use lib.Dec.{leb, eqb};
 ghost use Rattle.counter.specs.Halts.{halting};
 ghost use Rattle.counter.specs.Registers.{isHigh, immediate};
-ghost use Rattle.timer.specs.Calls.{asks, asking, isPin, edgeCaptures, edgeTicks};
+ghost use Rattle.timer.specs.Calls.{asks, asking, edgeCaptures, edgeTicks};
 ghost use Rattle.serving.specs.Asks.{asksIn};
 
 // absent tells that there is no register at its address, wrong a level or a mode that there is not, tested that it may not pass the next event, halted that
@@ -60,18 +61,6 @@ fn placed(place: u8, tested: bool, syncs: bool) -> Asks
         halted: false,
         syncs,
     }
-}
-
-fn is_high(place: u8) -> bool
-    ensures { λ r. ⌜ r ≡ isHigh place ⌝ }
-{
-    (place <= 9) & (place % 2 == 1)
-}
-
-fn is_pin(wire: Wire, pin: u8) -> bool
-    ensures { λ r. ⌜ r ≡ isPin wire pin ⌝ }
-{
-    wire.present & (wire.pin == pin)
 }
 
 // Does an edge of a pin capture.
