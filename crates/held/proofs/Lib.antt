@@ -6,4 +6,3 @@ pub mod Answers
 pub mod Accepts
 pub mod Stills
 pub mod Stores
-pub mod Rises

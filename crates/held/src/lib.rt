@@ -3,6 +3,5 @@
 pub mod calls;
 pub mod quick;
 pub mod reply;
-pub mod rise;
 pub mod state;
 pub mod write;

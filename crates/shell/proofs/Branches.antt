@@ -7,7 +7,7 @@ use borrow.Author.Tests.{leb-true}
 use Rattle.tick.proofs.Choices.{and-left}
 use Rattle.time.specs.Units.{lateAt}
 use Rattle.held.specs.Quick.{refusing}
-use Rattle.held.specs.Rise.{strikesOf}
+use Rattle.climbing.specs.Rise.{strikesOf}
 
 pub is-true : (y : Bool) → T y → y ≡ true
 is-true true t = refl

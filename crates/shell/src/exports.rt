@@ -1,5 +1,7 @@
 // What Rust and C call.
 
+use climbing::rising;
+use climbing::strikes;
 use config::Config;
 use counter::state::Timer;
 use held::calls::advance;
@@ -9,8 +11,6 @@ use held::quick::nexting;
 use held::quick::refusing;
 use held::quick::stilling;
 use held::reply::Reply;
-use held::rise::rising;
-use held::rise::strikes;
 use held::state::Held;
 use held::state::held_of;
 use held::write::buffering;
@@ -39,7 +39,7 @@ ghost use Rattle.timer.specs.declared.calls.Call.{Call};
 ghost use Rattle.held.specs.Held.{Kept};
 ghost use Rattle.held.specs.Quick.{refusing, acceptedIn};
 ghost use Rattle.held.specs.Reply.{Serves, Served, countLow};
-ghost use Rattle.held.specs.Rise.{strikesOf};
+ghost use Rattle.climbing.specs.Rise.{strikesOf};
 ghost use Rattle.held.specs.Write.{wayOf, Waits, Latches, Stores};
 ghost use Rattle.serving.specs.Asked.{callOf, answeredTo};
 ghost use Rattle.rewriting.specs.Writing.{Takes};

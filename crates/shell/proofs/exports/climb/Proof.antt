@@ -45,11 +45,11 @@ use denote.Triple.Table.{entered, cited}
 use denote.Triple.Walked.{says, needs, Stays, stay-ref, stay-none, gave-slice, walkOf, AllGo, goes-none, goes-ref, goes-gave-slice, Walks, ends-at, walked, walk-meets}
 use denote.Exit.{yes}
 use Rattle.held.specs.declared.state.Held.{Held}
-use Rattle.held.specs.declared.rise.Risen.{Risen}
+use Rattle.climbing.specs.declared.Risen.{Risen}
 use Rattle.held.specs.declared.reply.Reply.{Reply}
 use Rattle.held.specs.Held.{Kept}
 use Rattle.held.specs.Reply.{Serves}
-use Rattle.held.specs.Rise.{strikesOf, risenIn}
+use Rattle.climbing.specs.Rise.{strikesOf, risenIn}
 use Rattle.held.proofs.Puts.{latestIn, tifrIn}
 use Rattle.tick.proofs.setting.Drives as G
 use Rattle.tick.proofs.setting.Drives.Laws as G′
@@ -62,12 +62,12 @@ use Rattle.held.proofs.state.Held as T
 use Rattle.held.proofs.state.Held.Laws as T′
 use Rattle.held.proofs.reply.Reply as E
 use Rattle.held.proofs.reply.Reply.Laws as E′
-use Rattle.held.proofs.rise.Risen as D
-use Rattle.held.proofs.rise.Risen.Laws as D′
-use Rattle.held.proofs.rise.rising as core
-use Rattle.held.proofs.rise.rising.Symbol as core-def
-use Rattle.held.proofs.rise.rising.Symbol.{name as #core}
-use Rattle.held.proofs.rise.rising.Met as core-thm
+use Rattle.climbing.proofs.Risen as D
+use Rattle.climbing.proofs.Risen.Laws as D′
+use Rattle.climbing.proofs.rising as core
+use Rattle.climbing.proofs.rising.Symbol as core-def
+use Rattle.climbing.proofs.rising.Symbol.{name as #core}
+use Rattle.climbing.proofs.rising.Met as core-thm
 use Rattle.shell.proofs.exports.climb.Key.{name as #lent}
 use Rattle.shell.proofs.exports.climb as lent
 use Rattle.shell.proofs.exports.climb.Statement as stated
@@ -283,4 +283,4 @@ climb-spec 𝓤 H 𝓜 𝓖 𝓡 =
     entered 𝓤 H (tripleOf 𝓤 H (𝓖 .A) lent.signature (lent.spec 𝓤 H (𝓖 .A) (𝓜 .mem) (𝓡 .run)))
     (tables 𝓤 H 𝓜 𝓡 code.env .C) (tables 𝓤 H 𝓜 𝓡 code.env .Λ) #lent code.function (code.unfolded 𝓤 H 𝓜 𝓡)
     (lent-meets 𝓤 H (𝓖 .A) (givenOf 𝓤 H 𝓜 𝓖) (𝓜 .mem) (𝓡 .run) (tablesOf 𝓤 H 𝓜 (tables 𝓤 H 𝓜 𝓡 code.env))
-    (cited 𝓤 H (Core 𝓤 H (𝓖 .A) (𝓜 .mem) (𝓡 .run)) 𝓜 𝓡 code.env #core core-def.routine code.calls-held·rise·rising (core-thm.met 𝓤 H 𝓜 𝓖 𝓡)))
+    (cited 𝓤 H (Core 𝓤 H (𝓖 .A) (𝓜 .mem) (𝓡 .run)) 𝓜 𝓡 code.env #core core-def.routine code.calls-climbing·rising (core-thm.met 𝓤 H 𝓜 𝓖 𝓡)))

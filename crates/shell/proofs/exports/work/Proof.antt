@@ -44,7 +44,7 @@ use Rattle.held.specs.declared.reply.Reply.{Reply}
 use Rattle.held.specs.Held.{Kept}
 use Rattle.held.specs.Reply.{Serves}
 use Rattle.held.specs.Quick.{refusing}
-use Rattle.held.specs.Rise.{strikesOf}
+use Rattle.climbing.specs.Rise.{strikesOf}
 use Rattle.shell.proofs.Branches.{is-true, met}
 use Rattle.shell.proofs.Places.{held-of, IsHeld, kind-fits, next-fits, latest-fits}
 use Rattle.shell.proofs.Cells.{timer-at, scene-at, kind-at, counter-at, blocked-at, clock-at, latest-at, cycle-at, next-at, kind-read, blocked-read, next-read, latest-read}
@@ -55,10 +55,10 @@ use Rattle.held.proofs.state.Held as T
 use Rattle.held.proofs.state.Held.Laws as T′
 use Rattle.held.proofs.reply.Reply as E
 use Rattle.held.proofs.reply.Reply.Laws as E′
-use Rattle.held.proofs.rise.strikes as test
-use Rattle.held.proofs.rise.strikes.Symbol as test-def
-use Rattle.held.proofs.rise.strikes.Symbol.{name as #test}
-use Rattle.held.proofs.rise.strikes.Met as test-thm
+use Rattle.climbing.proofs.strikes as test
+use Rattle.climbing.proofs.strikes.Symbol as test-def
+use Rattle.climbing.proofs.strikes.Symbol.{name as #test}
+use Rattle.climbing.proofs.strikes.Met as test-thm
 use Rattle.shell.proofs.exports.climb as climb
 use Rattle.shell.proofs.exports.climb.Symbol as climb-def
 use Rattle.shell.proofs.exports.climb.Symbol.{name as #climb}
@@ -244,6 +244,6 @@ work-spec 𝓤 H 𝓜 𝓖 𝓡 =
     entered 𝓤 H (tripleOf 𝓤 H (𝓖 .A) lent.signature (lent.spec 𝓤 H (𝓖 .A) (𝓜 .mem) (𝓡 .run)))
     (tables 𝓤 H 𝓜 𝓡 code.env .C) (tables 𝓤 H 𝓜 𝓡 code.env .Λ) #lent code.function (code.unfolded 𝓤 H 𝓜 𝓡)
     (lent-meets 𝓤 H (𝓖 .A) (givenOf 𝓤 H 𝓜 𝓖) (𝓜 .mem) (𝓡 .run) (tablesOf 𝓤 H 𝓜 (tables 𝓤 H 𝓜 𝓡 code.env))
-    (cited 𝓤 H (Test 𝓤 H (𝓖 .A) (𝓜 .mem) (𝓡 .run)) 𝓜 𝓡 code.env #test test-def.routine code.calls-held·rise·strikes (test-thm.met 𝓤 H 𝓜 𝓖 𝓡))
+    (cited 𝓤 H (Test 𝓤 H (𝓖 .A) (𝓜 .mem) (𝓡 .run)) 𝓜 𝓡 code.env #test test-def.routine code.calls-climbing·strikes (test-thm.met 𝓤 H 𝓜 𝓖 𝓡))
     (cited 𝓤 H (To-climb 𝓤 H (𝓖 .A) (𝓜 .mem) (𝓡 .run)) 𝓜 𝓡 code.env #climb climb-def.routine code.calls-shell·exports·climb (climb-thm.met 𝓤 H 𝓜 𝓖 𝓡))
     (cited 𝓤 H (To-onward 𝓤 H (𝓖 .A) (𝓜 .mem) (𝓡 .run)) 𝓜 𝓡 code.env #onward onward-def.routine code.calls-shell·exports·onward (onward-thm.met 𝓤 H 𝓜 𝓖 𝓡)))

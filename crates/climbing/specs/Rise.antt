@@ -5,9 +5,9 @@ use lib.Dec.{eqb, leb}
 use Rattle.wave.specs.Kinds.{P}
 use Rattle.time.specs.Clock.{clockAt}
 use Rattle.strike.specs.declared.Rise.{Rise}
-use Rattle.held.specs.declared.rise.Risen.{Risen}
+use Rattle.climbing.specs.declared.Risen.{Risen}
 use Rattle.held.specs.declared.state.Held.{Held}
 use Rattle.held.specs.Quick.{refusing}
 
 -- the cycle is accepted, no match is blocked, the count rises, and any tick's records fit
 unfoldable pub strikesOf : ℕ → Bool → ℕ → ℕ → ℕ → ℕ → Bool

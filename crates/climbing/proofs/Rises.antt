@@ -48,17 +48,17 @@ use Rattle.scene.proofs.Flags.{apart-of}
 use Rattle.strike.specs.declared.Rise.{Rise}
 use Rattle.strike.proofs.Strikes.{known-fits}
 use Rattle.strike.specs.Strike.{tickIn, runIn, Known, Fit, Rose, EveryRun}
 use Rattle.held.specs.declared.reply.Reply.{Reply}
-use Rattle.held.specs.declared.rise.Risen.{Risen}
+use Rattle.climbing.specs.declared.Risen.{Risen}
 use Rattle.held.specs.declared.state.Held.{Held}
 use Rattle.held.specs.Held.{Kept, codeOf, flagsIn, never}
 use Rattle.held.specs.Quick.{refusing, ticksTo}
 use Rattle.held.specs.Reply.{replied, Serves}
-use Rattle.held.specs.Rise.{strikesOf, startOf, risenIn}
+use Rattle.climbing.specs.Rise.{strikesOf, startOf, risenIn}
 use Rattle.held.proofs.Answers.{told-serves}
 use Rattle.held.proofs.Holds.{none-next}
 use Rattle.held.proofs.Laws.{gap-shrinks, linear-on}
 use Rattle.held.proofs.Passes.{div-mono}
 
 -- ---- ticks and their cycles
 module _ (p : Prescaler) (d : 0 < p .divisor) where

@@ -1,6 +1,6 @@
 use borrow.Author.Needs.{needs}
-use Rattle.held.proofs.rise.start.Statement.{statement}
-use Rattle.held.proofs.rise.start.Tie as tie
+use Rattle.climbing.proofs.start.Statement.{statement}
+use Rattle.climbing.proofs.start.Tie as tie
 
 shr-t13 : tie.Need-shr-t13
 shr-t13 c = c .before .before .before .before .before .before .before .before .before .before .before .pre .0

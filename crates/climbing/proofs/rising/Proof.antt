@@ -1,11 +1,11 @@
 use Rattle.held.specs.Quick.{ticksTo}
 use mathlib.Core.Logic.{inl, inr, ⊎-elim}
 use mathlib.Core.Path.{_∙_}
 use native.Mathlib.Omega.{arith}
-use Rattle.held.proofs.Rises.{asked, start-asked, rising-asked, rose, shl-under, event-positive, end-under, end-origin, left-upto, left-small, ticks-on, rising-serves}
+use Rattle.climbing.proofs.Rises.{asked, start-asked, rising-asked, rose, shl-under, event-positive, end-under, end-origin, left-upto, left-small, ticks-on, rising-serves}
 use borrow.Author.Needs.{needs}
-use Rattle.held.proofs.rise.rising.Statement.{statement}
-use Rattle.held.proofs.rise.rising.Tie as tie
+use Rattle.climbing.proofs.rising.Statement.{statement}
+use Rattle.climbing.proofs.rising.Tie as tie
 
 start-requires : tie.Need-start-requires
 start-requires c κs = start-asked (asked _ _ _ (c .before .before .before .before .before .before .before .before .pre .0) (c .before .before .before .before .before .before .before .before .pre .1) (c .before .before .before .before .before .before .before .before .pre .2))

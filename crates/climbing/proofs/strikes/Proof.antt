@@ -1,7 +1,7 @@
 use borrow.Author.Needs.{needs}
-use Rattle.held.specs.Rise.{strikesOf}
-use Rattle.held.proofs.rise.strikes.Statement.{statement}
-use Rattle.held.proofs.rise.strikes.Tie as tie
+use Rattle.climbing.specs.Rise.{strikesOf}
+use Rattle.climbing.proofs.strikes.Statement.{statement}
+use Rattle.climbing.proofs.strikes.Tie as tie
 
 returns : tie.Need-returns
 unfolding strikesOf

@@ -1,8 +1,8 @@
 // An advance over events of a rising count.
 
-use crate::quick::refusing;
-use crate::reply::Reply;
-use crate::state::Held;
+use held::quick::refusing;
+use held::reply::Reply;
+use held::state::Held;
 use strike::Rise;
 use tick::setting::Drives;
 use time::units::Cycle;
@@ -15,9 +15,9 @@ ghost use lib.ListN.{length};
 ghost use Rattle.passage.specs.Passage.{ticks};
 ghost use Rattle.timer.specs.Calls.{answered};
 ghost use Rattle.timer.specs.declared.calls.Call.{Call};
 ghost use Rattle.held.specs.Held.{Kept};
 ghost use Rattle.held.specs.Reply.{Serves};
-ghost use Rattle.held.specs.Rise.{strikesOf, startOf, risenIn};
+ghost use Rattle.climbing.specs.Rise.{strikesOf, startOf, risenIn};
 
 // May an advance strike the events from what is kept: the cycle is accepted, the count rises, no match is blocked, and any tick's records fit.
 pub fn strikes(kind: u8, blocked: bool, latest: u64, next: u64, cycle: u64, room: usize) -> bool
