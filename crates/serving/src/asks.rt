@@ -81,12 +81,27 @@ pub fn edge_ticks(t: Timer, pin: u8, level: u8) -> bool
     is_pin(config.t, pin) & ticks_on(t, level)
 }
 
+// A read lets time pass but of a high byte.
+fn reading(place: u8) -> Asks
+    ensures { λ r. ⌜ r ≡ asksIn (asking (leb 13 place) false (not (isHigh place)) false (not (isHigh place))) ⌝ }
+{
+    let high = is_high(place);
+    placed(place, !high, !high)
+}
+
 // A write lets time pass but to a high byte, and in the PWM modes to a force register.
 fn writing(t: Timer, place: u8) -> Asks
     ensures { λ r. ⌜ r ≡ asksIn (asking (leb 13 place) false (not (isHigh place)) false (not (isHigh place || eqb place 12 && not (immediate t)))) ⌝ }
 {
     let high = is_high(place);
     placed(place, !high, !(high | ((place == 12) & !t.immediate())))
+}
+
+// A call that a timer asleep cannot take where it turns something.
+fn shut_asleep(asleep: bool, wrong: bool, turns: bool) -> Asks
+    ensures { λ r. ⌜ r ≡ asksIn (asking false wrong true (asleep && turns) turns) ⌝ }
+{
+    turning(wrong, asleep & turns, turns)
 }
 
 // Does a sleep mode halt; one over 7 does as the table has it.
@@ -105,11 +120,7 @@ pub fn tests(t: Timer, c: Call) -> Asks
     match c {
         Call::Advance => still(false, false),
         Call::Next => still(false, true),
-        Call::Read(address) => {
-            let place = config.place(address);
-            let high = is_high(place);
-            placed(place, !high, !high)
-        }
+        Call::Read(address) => reading(config.place(address)),
         Call::Peek(address) => placed(config.place(address), true, true),
         Call::Write(address, value) => writing(t, config.place(address)),
         Call::Tifr => still(false, true),
@@ -119,20 +130,11 @@ pub fn tests(t: Timer, c: Call) -> Asks
         Call::Edge(pin, level) => turning(1 < level, false, edge_captures(t, pin, level)),
         Call::Output(level) => turning(1 < level, false, halts.routed & captures(t, level)),
         Call::Route(level) => still(1 < level, true),
-        Call::Sleep(mode) => {
-            let halting = halts_in(t, mode);
-            turning(7 < mode, halts.asleep & halting, halting)
-        }
+        Call::Sleep(mode) => shut_asleep(halts.asleep, 7 < mode, halts_in(t, mode)),
         Call::Wake => still(false, true),
         Call::Reduce(mask) => turning(false, false, (mask & config.prr != 0) != halts.reduced),
-        Call::Tsm(level) => {
-            let changes = (level == 1) != halts.tsm;
-            turning(1 < level, halts.asleep & changes, changes)
-        }
-        Call::Prescale(mask) => {
-            let own = mask & config.group != 0;
-            turning(false, halts.asleep & own, own)
-        }
+        Call::Tsm(level) => shut_asleep(halts.asleep, 1 < level, (level == 1) != halts.tsm),
+        Call::Prescale(mask) => shut_asleep(halts.asleep, false, mask & config.group != 0),
         Call::Reset => still(false, false),
     }
 }

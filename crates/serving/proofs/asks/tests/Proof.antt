@@ -14,11 +14,11 @@ returns-2 c = rw (c .still2 .ensures, c .before .enum-told2 .given .1) refl
 
 returns-3 : tie.Need-returns-3
 unfolding asks outputCaptures
-returns-3 c = rw (c .placed .ensures, c .before .is-high .ensures, c .before .before .place .ensures, c .before .before .before .before .c .given .1) refl
+returns-3 c = rw (c .reading .ensures, c .before .place .ensures, c .before .before .before .c .given .1) refl
 
 returns-4 : tie.Need-returns-4
 unfolding asks outputCaptures
-returns-4 c = rw (c .placed2 .ensures, c .before .place2 .ensures, c .before .before .before .c2 .given .1) refl
+returns-4 c = rw (c .placed .ensures, c .before .place2 .ensures, c .before .before .before .c2 .given .1) refl
 
 returns-5 : tie.Need-returns-5
 unfolding asks outputCaptures
@@ -54,7 +54,7 @@ returns-12 c = rw (c .still7 .ensures, c .before .before .c8 .given .1) refl
 
 returns-13 : tie.Need-returns-13
 unfolding asks outputCaptures
-returns-13 c = rw (c .turning3 .ensures, c .before .before .halts-in .ensures, c .before .before .before .before .c9 .given .1) refl
+returns-13 c = rw (c .shut-asleep .ensures, c .before .halts-in .ensures, c .before .before .before .c9 .given .1) refl
 
 returns-14 : tie.Need-returns-14
 unfolding asks outputCaptures
@@ -62,19 +62,19 @@ returns-14 c = rw (c .still8 .ensures, c .before .enum-told5 .given .1) refl
 
 returns-15 : tie.Need-returns-15
 unfolding asks outputCaptures
-returns-15 c = rw (c .turning4 .ensures, c .before .before .before .before .c10 .given .1) refl
+returns-15 c = rw (c .turning3 .ensures, c .before .before .before .before .c10 .given .1) refl
 
 returns-16 : tie.Need-returns-16
 unfolding asks outputCaptures
-returns-16 c = rw (c .turning5 .ensures, c .before .before .before .before .c11 .given .1) refl
+returns-16 c = rw (c .shut-asleep2 .ensures, c .before .before .before .c11 .given .1) refl
 
 returns-17 : tie.Need-returns-17
 unfolding asks outputCaptures
-returns-17 c = rw (c .turning6 .ensures, c .before .before .before .before .c12 .given .1) refl
+returns-17 c = rw (c .shut-asleep3 .ensures, c .before .before .before .c12 .given .1) refl
 
 returns-18 : tie.Need-returns-18
 unfolding asks outputCaptures
 returns-18 c = rw (c .still9 .ensures, c .before .enum-told6 .given .1) refl
 
 pub tests-spec : {M : Type 1} → statement M
-tests-spec = tie.close (tie.spec (λ c. search needs) (λ c κs. search needs) (λ c. search needs) (λ c κs. search needs) (λ c. search needs) (λ c κs. search needs) (λ c κs. search needs) (λ c κs. search needs) (λ c. search needs) (λ c κs. search needs) (λ c κs. search needs) (λ c. search needs) (λ c κs. search needs) (λ c κs. search needs) (λ c. search needs) (λ c κs. search needs) (λ c. search needs) (λ c κs. search needs) (λ c. search needs) (λ c κs. search needs) (λ c. search needs) (λ c κs. search needs) (λ c. search needs) (λ c κs. search needs) (λ c κs. search needs) (λ c. search needs) (λ c κs. search needs) (λ c κs. search needs) (λ c. search needs) (λ c κs. search needs) (λ c. search needs) (λ c κs. search needs) (λ c κs. search needs) (λ c. search needs) (λ c κs. search needs) (λ c. search needs) (λ c κs. search needs) (λ c. search needs) (λ c κs. search needs) (λ c. search needs) (λ c κs. search needs) (λ c. search needs) (λ c κs. search needs) returns returns-2 returns-3 returns-4 returns-5 returns-6 returns-7 returns-8 returns-9 returns-10 returns-11 returns-12 returns-13 returns-14 returns-15 returns-16 returns-17 returns-18)
+tests-spec = tie.close (tie.spec (λ c. search needs) (λ c κs. search needs) (λ c. search needs) (λ c κs. search needs) (λ c. search needs) (λ c κs. search needs) (λ c κs. search needs) (λ c. search needs) (λ c κs. search needs) (λ c κs. search needs) (λ c. search needs) (λ c κs. search needs) (λ c κs. search needs) (λ c. search needs) (λ c κs. search needs) (λ c. search needs) (λ c κs. search needs) (λ c. search needs) (λ c κs. search needs) (λ c. search needs) (λ c κs. search needs) (λ c. search needs) (λ c κs. search needs) (λ c κs. search needs) (λ c. search needs) (λ c κs. search needs) (λ c κs. search needs) (λ c. search needs) (λ c κs. search needs) (λ c. search needs) (λ c κs. search needs) (λ c κs. search needs) (λ c. search needs) (λ c κs. search needs) (λ c. search needs) (λ c κs. search needs) (λ c. search needs) (λ c κs. search needs) (λ c. search needs) (λ c κs. search needs) (λ c. search needs) (λ c κs. search needs) returns returns-2 returns-3 returns-4 returns-5 returns-6 returns-7 returns-8 returns-9 returns-10 returns-11 returns-12 returns-13 returns-14 returns-15 returns-16 returns-17 returns-18)
