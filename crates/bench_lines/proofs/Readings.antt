@@ -33,7 +33,8 @@ use Rattle.scheduler.specs.Scheduler.{put, scheduled, removed, popped}
 use Rattle.m328p.specs.Places.{isOf, registerAt, placeAt}
 use Rattle.aims.specs.Aims.{storedOf, castOf, aimOf}
 use Rattle.board.specs.State.{boardTo, boardAll}
-use Rattle.board.specs.Calls.{ownTold, prescaled, reached, lowest, allTold, aimed, told}
+use Rattle.casts.specs.Casts.{prescaled, reached, lowest}
+use Rattle.board.specs.Calls.{ownTold, allTold, aimed, told}
 use Rattle.wdtcsr.specs.Timeouts.{periodOf, timedOut, timeout, tick, linear as wdtcsr-linear, gapOf}
 use Rattle.wdtcsr.specs.Wdtcsr.{isOpen, valueOf, takes, tooLong, controlTo, windowTo, stoppedAt, written as wdtcsr-written}
 use Rattle.oscillator.specs.Oscillator.{one as oscillator-one, ticks as oscillator-ticks, quiet, skips, due as oscillator-due, start as oscillator-start, syncOf as oscillator-syncOf, passed as oscillator-passed, runOf, synced as oscillator-synced, nextAt as oscillator-nextAt, nextOf as oscillator-nextOf, isDue as oscillator-isDue}

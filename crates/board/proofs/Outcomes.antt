@@ -19,12 +19,13 @@ use Rattle.aims.specs.declared.Cast.{Cast}
 use Rattle.aims.specs.declared.Aim.{Aim}
 use Rattle.aims.specs.declared.Aim.the-variants as aim
 use Rattle.aims.specs.Aims.{aimOf}
+use Rattle.casts.specs.Casts.{reached, lowest}
+use Rattle.casts.proofs.Silent.{reached-silent}
 use Rattle.board.specs.declared.state.Board.{Board}
 use Rattle.board.specs.declared.outcome.Outcome.{Outcome}
 use Rattle.board.specs.declared.outcome.Written.{Written}
 use Rattle.board.specs.State.{Valid, timerOf, boardTo, boardAll}
-use Rattle.board.specs.Calls.{Areas, areaOf, areasTo, writtenOf, nothing, Told, ownTold, reached, lowest, allTold, aimed, told, Tells, Took}
-use Rattle.board.proofs.Silent.{reached-silent}
+use Rattle.board.specs.Calls.{Areas, areaOf, areasTo, writtenOf, nothing, Told, ownTold, allTold, aimed, told, Tells, Took}
 
 -- ---- what the code keeps of a timer's own call
 module _ (b : Board) (i : Id) (o : Timer·Outcome) {n : ℕ} {w : Written} (e : n ≡ numberOf (o .answer)) (g : w ≡ writtenOf i (o .written)) where

@@ -1,24 +1,20 @@
 -- What an order to the board does (02, 2.6): through the timers' own `answered`, by a passage of time.
-use Prim.Native.Nat.{ℕ, min}
+use Prim.Native.Nat.{ℕ}
 use mathlib.Core.Bool.{cond}
 use mathlib.Core.List.{List}
 use mathlib.Core.Path.{_≡_}
 use lib.Dec.{eqb}
-use Rattle.counter.specs.declared.state.Timer.{Timer}
 use Rattle.passage.specs.Passage.{Passage}
 use Rattle.answers.specs.declared.Outcome.{Outcome as Timer·Outcome}
-use Rattle.answers.specs.Answers.{Values, refused, none, byte, numberOf, valuesOf, Told as Timer·Told, turned as Timer·turned}
-use Rattle.timer.specs.declared.calls.Call.{Call}
-use Rattle.timer.specs.declared.calls.Call.the-variants as call
+use Rattle.answers.specs.Answers.{Values, refused, none, byte, numberOf, valuesOf, Told as Timer·Told}
 use Rattle.timer.specs.Calls.{answered}
 use Rattle.m328p.specs.declared.Id.{Id}
 use Rattle.m328p.specs.declared.Id.the-variants as id
 use Rattle.aims.specs.declared.Order.{Order}
-use Rattle.aims.specs.declared.Cast.{Cast}
-use Rattle.aims.specs.declared.Cast.the-variants as cast
 use Rattle.aims.specs.declared.Aim.{Aim}
 use Rattle.aims.specs.declared.Aim.the-variants as aim
 use Rattle.aims.specs.Aims.{aimOf}
+use Rattle.casts.specs.Casts.{reached, lowest}
 use Rattle.board.specs.declared.state.Board.{Board}
 use Rattle.board.specs.declared.outcome.Written.{Written}
 use Rattle.board.specs.declared.outcome.Outcome.{Outcome}
@@ -80,26 +76,6 @@ ownTold b i areas x =
     record { board = cond (eqb (x .number) 0) (boardTo b i (x .timer)) b; number = x .number; values = x .values; written = writtenOf i (x .written); areas = areasTo areas i (x .area) }
 
 -- ---- all three
-
--- a timer's answer, turned away as it was before
-abbrev pub orBack : Timer → List ℕ → Timer·Told → Timer·Told
-orBack t area x = cond (eqb (x .number) 0) x (Timer·turned (x .number) t area)
-
--- the prescaler resets, once TSM was taken
-unfoldable pub prescaled : Passage → Timer → ℕ → ℕ → List ℕ → Timer·Told → Timer·Told
-prescaled p t mask cycle area x = cond (eqb (x .number) 0) (orBack t area (answered p (x .timer) (call.Prescale mask) cycle (x .area))) x
-
--- what each of the three answers, by calls of its own
-unfoldable pub reached : Passage → Timer → Cast → ℕ → List ℕ → Timer·Told
-reached p t (cast.Sleep mode) cycle area = answered p t (call.Sleep mode) cycle area
-reached p t cast.Wake cycle area = answered p t call.Wake cycle area
-reached p t (cast.Reduce value) cycle area = answered p t (call.Reduce value) cycle area
-reached p t (cast.Prescale mask) cycle area = answered p t (call.Prescale mask) cycle area
-reached p t (cast.Synchronise level mask) cycle area = prescaled p t mask cycle area (answered p t (call.Tsm level) cycle area)
-
--- the lower of two numbers, where 0 is none
-unfoldable pub lowest : ℕ → ℕ → ℕ
-lowest a b = cond (eqb a 0) b (cond (eqb b 0) a (min a b))
 
 -- refused with the lowest number if one of them would refuse, and then none is changed, no area either
 unfoldable pub allTold : Board → ℕ → Areas → Timer·Told → Timer·Told → Timer·Told → Told

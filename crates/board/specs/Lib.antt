@@ -1,4 +1,2 @@
 pub mod State
 pub mod Calls
-pub mod Claims
-pub mod Readings

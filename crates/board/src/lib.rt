@@ -1,20 +1,19 @@
 // The ATmega328P board: whoever calls, with anything, gets the result or one numbered refusal.
 
 pub mod outcome;
-mod reach;
 pub mod state;
 
 use crate::outcome::Outcome;
 use crate::outcome::Written;
-use crate::outcome::lowest;
-use crate::outcome::number;
-use crate::reach::reach;
 use crate::state::Board;
 use aims::Aim;
 use aims::Cast;
 use aims::Order;
 use aims::aimed;
 use answers::Answer;
+use casts::lowest;
+use casts::number;
+use casts::reach;
 use m328p::Id;
 use time::units::Cycle;
 use timer::calls::Call;

@@ -4,8 +4,7 @@ use crate::state::Board;
 use answers::Answer;
 use m328p::Id;
 ghost use mathlib.Core.Path.{_≡_};
-ghost use Rattle.answers.specs.Answers.{numberOf};
-ghost use Rattle.board.specs.Calls.{writtenOf, nothing, lowest};
+ghost use Rattle.board.specs.Calls.{writtenOf, nothing};
 
 // The bytes written from the start of each timer's area.
 pub struct Written {
@@ -55,31 +54,4 @@ impl Written {
             },
         }
     }
-}
-
-// Yields an answer's refusal, 0 for none.
-pub fn number(answer: Answer) -> u8
-    ensures { λ r. ⌜ r ≡ numberOf answer ⌝ }
-{
-    match answer {
-        Answer::Refused(n) => n,
-        Answer::Done => 0,
-        Answer::Value(v) => 0,
-        Answer::Next(n) => 0,
-        Answer::Reached(f) => 0,
-        Answer::Paused(c, f) => 0,
-    }
-}
-
-// Yields the lower of two refusals, where 0 is none.
-pub fn lowest(a: u8, b: u8) -> u8
-    ensures { λ r. ⌜ r ≡ lowest a b ⌝ }
-{
-    if a == 0 {
-        return b;
-    }
-    if b == 0 {
-        return a;
-    }
-    if a <= b { a } else { b }
 }

@@ -21,7 +21,8 @@ use Rattle.aims.specs.declared.Aim.the-variants as aim
 use Rattle.aims.specs.Aims.{aimOf}
 use Rattle.board.specs.declared.state.Board.{Board}
 use Rattle.board.specs.State.{timerOf}
-use Rattle.board.specs.Calls.{Areas, areaOf, Told, ownTold, prescaled, reached, lowest, allTold, aimed, told}
+use Rattle.casts.specs.Casts.{prescaled, reached, lowest}
+use Rattle.board.specs.Calls.{Areas, areaOf, Told, ownTold, allTold, aimed, told}
 
 prescaled-long : (t : Timer) (mask cycle : ℕ) (area : List ℕ) (x : Timer·Told) → Whole area x → Whole area (prescaled ticks t mask cycle area x)
 unfolding prescaled

@@ -5,8 +5,8 @@ use Rattle.passage.specs.Passage.{ticks}
 use Rattle.aims.specs.declared.Order.{Order}
 use Rattle.board.specs.declared.state.Board.{Board}
 use Rattle.board.specs.Calls.{Areas, Told}
-use Rattle.board.specs.Claims.{Request, tells, outcomes, last}
-use Rattle.board.proofs.Claims.{alike}
+use Rattle.board_claims.specs.Claims.{Request, tells, outcomes, last}
+use Rattle.board_claims.proofs.Claims.{alike}
 use Rattle.orders.specs.declared.Ordered.{Ordered}
 use Rattle.orders.specs.declared.Replied.{Replied}
 use Rattle.orders.specs.declared.Meant.the-variants as meant

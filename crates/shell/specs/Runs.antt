@@ -5,7 +5,7 @@ use Rattle.aims.specs.declared.Order.{Order}
 use Rattle.board.specs.declared.state.Board.{Board}
 use Rattle.board.specs.State.{freshBoard}
 use Rattle.board.specs.Calls.{Areas, Told}
-use Rattle.board.specs.Claims.{Request, Heard}
+use Rattle.board_claims.specs.Claims.{Request, Heard}
 use Rattle.orders.specs.declared.Ordered.{Ordered}
 use Rattle.orders.specs.declared.Replied.{Replied}
 use Rattle.orders.specs.declared.Meant.the-variants as meant

@@ -24,7 +24,7 @@ use Rattle.timer.proofs.Accepted.{call-accepted}
 use Rattle.timer.proofs.Keeps.{call-keeps}
 use Rattle.aims.specs.declared.Cast.{Cast}
 use Rattle.aims.specs.declared.Cast.the-variants as cast
-use Rattle.board.specs.Calls.{prescaled, reached}
+use Rattle.casts.specs.Casts.{prescaled, reached}
 
 -- no byte is written, and the area is as it was
 pub record Silent (was : List ℕ) (x : Told) : Type 0 where

@@ -27,9 +27,10 @@ use Rattle.scheduler.specs.Scheduler.{put, scheduled, removed}
 use Rattle.m328p.specs.Places.{isOf, registerAt, placeAt}
 use Rattle.plans.specs.Plans.{plannedOf}
 use Rattle.aims.specs.Aims.{storedOf, castOf, aimOf}
 use Rattle.board.specs.State.{boardTo, boardAll}
-use Rattle.board.specs.Calls.{ownTold, prescaled, reached, lowest, allTold, aimed, told}
-use Rattle.board.specs.Readings.{playedOn, replayedOn, played, replayed, Readings}
+use Rattle.casts.specs.Casts.{prescaled, reached, lowest}
+use Rattle.board.specs.Calls.{ownTold, allTold, aimed, told}
+use Rattle.board_claims.specs.Readings.{playedOn, replayedOn, played, replayed, Readings}
 use Rattle.answers.specs.Refusals.{isDue, late, refusal}
 
 pub readings-hold : Readings

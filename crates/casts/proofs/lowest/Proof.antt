@@ -1,8 +1,8 @@
-use Rattle.board.specs.Calls.{lowest}
+use Rattle.casts.specs.Casts.{lowest}
 use borrow.Author.Tests.{eq-eqb, ne-eqb}
 use native.Mathlib.Omega.{arith}
-use Rattle.board.proofs.outcome.lowest.Statement.{statement}
-use Rattle.board.proofs.outcome.lowest.Tie as tie
+use Rattle.casts.proofs.lowest.Statement.{statement}
+use Rattle.casts.proofs.lowest.Tie as tie
 
 returns : tie.Need-returns
 unfolding lowest

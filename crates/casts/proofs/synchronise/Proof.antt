@@ -1,8 +1,8 @@
-use Rattle.board.proofs.Reaches.{tsm-refused, both-taken, reset-refused}
+use Rattle.casts.proofs.Reaches.{tsm-refused, both-taken, reset-refused}
 use native.Mathlib.Omega.{arith}
 use borrow.Author.Needs.{needs}
-use Rattle.board.proofs.reach.synchronise.Statement.{statement}
-use Rattle.board.proofs.reach.synchronise.Tie as tie
+use Rattle.casts.proofs.synchronise.Statement.{statement}
+use Rattle.casts.proofs.synchronise.Tie as tie
 
 returns : tie.Need-returns
 returns c = tsm-refused _ _ _ _ _ (c .before .before .before .before .tsm .ensures) (c .before .number .ensures) (c .if1 .taken)

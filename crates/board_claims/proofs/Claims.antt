@@ -44,11 +44,12 @@ use Rattle.aims.specs.declared.Cast.the-variants as cast
 use Rattle.aims.specs.declared.Aim.{Aim}
 use Rattle.aims.specs.declared.Aim.the-variants as aim
 use Rattle.aims.specs.Aims.{storedOf, lookedAt, writtenAt, aimOf}
 use Rattle.board.specs.declared.state.Board.{Board}
 use Rattle.board.specs.declared.outcome.Outcome.{Outcome}
 use Rattle.board.specs.State.{Valid, timerOf, boardTo, boardAll, freshBoard}
-use Rattle.board.specs.Calls.{Areas, areaOf, areasTo, Told, ownTold, prescaled, reached, lowest, allTold, aimed, told, Tells}
-use Rattle.board.specs.Claims.{Request, tells, outcomes, last, Alike, nextsOf, Scheduled, reachesAll, Four, Alone, Untouched, advances, Agrees, Commuting, GtccrReads, heard, History, nothing, called, Heard, CodeIsRun}
+use Rattle.casts.specs.Casts.{prescaled, reached, lowest}
+use Rattle.board.specs.Calls.{Areas, areaOf, areasTo, Told, ownTold, allTold, aimed, told, Tells}
+use Rattle.board_claims.specs.Claims.{Request, tells, outcomes, last, Alike, nextsOf, Scheduled, reachesAll, Four, Alone, Untouched, advances, Agrees, Commuting, GtccrReads, heard, History, nothing, called, Heard, CodeIsRun}
 
 -- ---- each timer's calls keep it valid, and skipping and ticking are alike
 

@@ -12,8 +12,8 @@ use Rattle.answers.specs.declared.Outcome.{Outcome}
 use Rattle.answers.specs.Answers.{Told, Tells, numberOf}
 use Rattle.timer.specs.declared.calls.Call.the-variants as call
 use Rattle.timer.specs.Calls.{answered}
-use Rattle.board.specs.Calls.{orBack, prescaled}
-use Rattle.board.proofs.Silent.{tsm-silent}
+use Rattle.casts.specs.Casts.{orBack, prescaled}
+use Rattle.casts.proofs.Silent.{tsm-silent}
 
 -- the number of the code's answer is the definition's
 pub none-refused : {x : Told} {r : Outcome} {after : List ℕ} {n : ℕ} → Tells x r after → n ≡ numberOf (r .answer) → n ≡ 0 → x .number ≡ 0

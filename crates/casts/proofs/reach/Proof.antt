@@ -1,7 +1,7 @@
-use Rattle.board.specs.Calls.{reached}
+use Rattle.casts.specs.Casts.{reached}
 use borrow.Author.Needs.{needs}
-use Rattle.board.proofs.reach.reach.Statement.{statement}
-use Rattle.board.proofs.reach.reach.Tie as tie
+use Rattle.casts.proofs.reach.Statement.{statement}
+use Rattle.casts.proofs.reach.Tie as tie
 
 same-length : tie.Need-same-length
 same-length c = c .before .before .sleep .kept .1 .1 .1 .0

@@ -1,0 +1,1 @@
+// What is claimed of the board over lists of orders, and readings: claims and no function.
