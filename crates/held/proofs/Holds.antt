@@ -1,7 +1,7 @@
 -- Each valid timer can be held: the shift of its divisor.
 use Prim.Native.Nat.{ℕ, zero, suc, _+_, _-_, _<_, _≤_, _^_}
 use native.Mathlib.Omega.{arith}
-use mathlib.Core.Path.{_≡_, refl, ap, _∙_, sym}
+use mathlib.Core.Path.{_≡_, refl, ap, _∙_}
 use mathlib.Core.Bool.{Bool, true, false, cond}
 use mathlib.Core.Logic.{_⊎_, inl, inr, ⊎-elim}
 use lib.Dec.{eqb, leb}
@@ -11,20 +11,23 @@ use Rattle.counter.specs.declared.state.Timer.{Timer}
 use Rattle.counter.specs.Modes.{csSync, csTimer2, divisorAt, divisorOf, runningOf}
 use Rattle.counter.specs.Modes.{modeOf, waveOf, prescalerOf}
 use Rattle.counter.proofs.Bounds.{valid-sound}
-use Rattle.tick.proofs.Bounds.{gap-max}
+use Rattle.tick.proofs.Bounds.{gap-max, top-max}
 use Rattle.wave.specs.Distance.{gap}
 use native.Mathlib.Nat.{div-le-self}
 use Rattle.counter.specs.Next.{nextAt, nextOf}
 use Rattle.counter.specs.Setting.{settingAt, settingOf, movingOf}
 use Rattle.counter.specs.Valid.{Valid}
 use Rattle.counter.proofs.Clocks.{running-divides, next-fits}
-use Rattle.tick.specs.declared.distance.Distance.{Distance}
-use Rattle.tick.specs.declared.setting.Moving.{Moving}
-use Rattle.tick.specs.declared.setting.Setting.{Setting}
-use Rattle.wave.specs.declared.kinds.Wave.{Wave}
-use Rattle.tick.specs.Distance.{distanceOf}
+use Rattle.coming.specs.declared.Nearest.{Nearest}
+use Rattle.coming.specs.Coming.{Within, comingOf}
+use Rattle.coming.proofs.Laws.{coming-is}
+use Rattle.scene.specs.declared.state.Scene.{Scene}
+use Rattle.scene.specs.Scene.{Apart, sceneOf}
+use Rattle.scene.proofs.Flags.{apart-of}
+use Rattle.tick.specs.Distance.{flagsAhead}
+use Rattle.tick.specs.Setting.{channelOf}
 use Rattle.tick.specs.Skip.{distance}
-use Rattle.tick.specs.Sound.{Steady}
+use Rattle.wave.specs.Count.{falls, topOf}
 use Rattle.time.specs.declared.units.Prescaler.{Prescaler}
 use Rattle.time.specs.declared.units.Ticks.{Ticks}
 use Rattle.time.specs.Units.{ticksAt, cycleAt}
@@ -84,32 +87,37 @@ shift-upto d false = omega arith
 pub shift-small : (d : ℕ) (b : Bool) → shiftAt d b < 64
 shift-small d b = let l = shift-upto d b in omega arith
 
--- ---- the next event, sought once
--- the setting in which it is sought
-pub record Sought (t : Timer) (n : ℕ) (w : Wave) (s : Setting) (m : Moving) : Type 0 where
-  pub mode : n ≡ modeOf t
-  pub wave : w ≡ waveOf t n
-  pub setting : s ≡ settingAt t n w
-  pub moving : m ≡ movingOf t
+-- ---- the next event, from the scene
+-- the flags of a timer's setting are apart
+apart : (t : Timer) → Valid t → Apart (settingOf t)
+unfolding settingAt waveOf channelOf
+apart t v = apart-of (t .config) (settingOf t) (v .accepted) (record { tov = refl; a = refl; b = refl; c = refl; icf = refl; has-a = refl; has-b = refl; has-c = refl; capture = refl })
 
-module _ {t : Timer} {n : ℕ} {w : Wave} {s : Setting} {m : Moving} (q : Sought t n w s m) where
-  setting-is : s ≡ settingOf t
-  setting-is = q .setting ∙ ap (settingAt t n) (q .wave) ∙ ap (λ (k : ℕ). settingAt t k (waveOf t k)) (q .mode)
+-- what `foreseen` is given of a timer
+pub record Given (t : Timer) (s : Scene) (m : ℕ) (d : Bool) : Type 0 where
+  pub valid : Valid t
+  pub scene : s ≡ sceneOf (settingOf t)
+  pub top : m ≡ topOf (waveOf t (modeOf t)) (getD (t .ocr) 0 0)
+  pub down : d ≡ falls (waveOf t (modeOf t)) (t .counter)
 
-  pub sought-steady : Valid t → Steady (s .wave) m
+module _ {t : Timer} {scene : Scene} {top : ℕ} {down : Bool} (g : Given t scene top down) where
+  pub given-within : Within scene (t .counter) top
+  unfolding settingAt sceneOf
+  given-within =
+      let y = valid-sound t (g .valid) .steady in
+      rw (g .scene, g .top) (record { count = y .count; under = top-max (waveOf t (modeOf t)) (movingOf t) y; most = y .most })
+
+  pub given-sees : {e : Nearest} → e ≡ comingOf scene down (t .counter) top (t .ocr) → e ≡ record { ticks = distance (waveOf t (modeOf t)) (movingOf t); flags = flagsAhead (settingOf t) (movingOf t) }
   unfolding settingAt
-  sought-steady v = rw (setting-is, q .moving) (valid-sound t v .steady)
-
-  pub sought-ahead : {d : Distance} → d ≡ distanceOf s m → d ≡ distanceOf (settingOf t) (movingOf t)
-  sought-ahead e = e ∙ ap (λ (x : Setting). distanceOf x m) setting-is ∙ ap (distanceOf (settingOf t)) (q .moving)
+  given-sees e = e ∙ rw (g .scene, g .top, g .down) (coming-is (settingOf t) (movingOf t) (apart t (g .valid)))
 
 -- what was found of a timer that runs
-pub record Found (t : Timer) (p : Prescaler) (last : Ticks) (d : Distance) : Type 0 where
+pub record Found (t : Timer) (p : Prescaler) (last : Ticks) (e : Nearest) : Type 0 where
   pub clock : p ≡ prescalerOf t
   pub tick : last .0 ≡ ticksAt p (t .clock .sync .0)
-  pub ahead : d ≡ distanceOf (settingOf t) (movingOf t)
+  pub ahead : e ≡ record { ticks = distance (waveOf t (modeOf t)) (movingOf t); flags = flagsAhead (settingOf t) (movingOf t) }
 
-module _ {t : Timer} {p : Prescaler} {last : Ticks} {d : Distance} (f : Found t p last d) (v : Valid t) where
+module _ {t : Timer} {p : Prescaler} {last : Ticks} {d : Nearest} (f : Found t p last d) (v : Valid t) where
   found-at : cycleAt p (last .0 + d .ticks) ≡ nextAt t
   unfolding nextAt settingAt
   found-at = rw (f .tick, f .ahead, f .clock) refl
@@ -126,7 +134,7 @@ module _ {t : Timer} {p : Prescaler} {last : Ticks} {d : Distance} (f : Found t 
   found-tick =
       let b = gap-max (waveOf t (modeOf t)) (movingOf t) (valid-sound t v .steady) in
       let k = div-le-self (t .clock .sync .0 - p .origin .0) (p .divisor) in
-      let e : d .ticks ≡ gap (waveOf t (modeOf t)) (t .counter) (t .ocr) + 1 = ap (λ (x : Distance). x .ticks) (f .ahead) in
+      let e : d .ticks ≡ gap (waveOf t (modeOf t)) (t .counter) (t .ocr) + 1 = ap (λ (x : Nearest). x .ticks) (f .ahead) in
       let m = valid-sound t v .steady .most in
       let l = f .tick in
       let s = v .sync in

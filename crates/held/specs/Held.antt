@@ -14,6 +14,7 @@ use Rattle.counter.specs.Setting.{settingOf}
 use Rattle.counter.specs.Valid.{Valid}
 use Rattle.scene.specs.Scene.{sceneOf}
 use Rattle.held.specs.declared.state.Held.{Held}
+use Rattle.held.specs.declared.state.Ahead.{Ahead}
 
 -- past every cycle: no event is to come
 abbrev pub never : ℕ
@@ -35,6 +36,14 @@ shiftAt d running =
     cond running
     (cond (eqb d 8) 3 (cond (eqb d 32) 5 (cond (eqb d 64) 6 (cond (eqb d 128) 7 (cond (eqb d 256) 8 (cond (eqb d 1024) 10 0))))))
     63
+
+-- what lies ahead of a timer: its next event with the flags, and the shift of its divisor
+pub record Foresees (t : Timer) (r : Ahead) : Type 0 where
+  pub next : r .next ≡ codeOf (nextOf t)
+  pub flags : r .flags ≡ flagsIn (nextOf t)
+  pub shift : runningOf t ≡ true → divisorOf t ≡ 2 ^ r .shift
+  pub idle : runningOf t ≡ false → r .shift ≡ 63
+  pub small : r .shift < 64
 
 -- what is kept of which timer: of a valid one its next event with the flags, the shift of its divisor, whether its count falls, its setting's scene and TOP
 pub record Kept (h : Held) : Type 0 where

@@ -1,12 +1,18 @@
 // A timer with what is kept of it.
 
+use coming::coming;
 use counter::state::Timer;
 use scene::state::Scene;
 use scene::state::scene_of;
 use time::units::Ticks;
 ghost use mathlib.Core.Path.{_≡_};
 ghost use Rattle.counter.specs.Valid.{Valid};
-ghost use Rattle.held.specs.Held.{Kept, shiftAt};
+ghost use lib.ListN.{getD};
+ghost use Rattle.wave.specs.Count.{falls, topOf};
+ghost use Rattle.scene.specs.Scene.{sceneOf};
+ghost use Rattle.counter.specs.Modes.{modeOf, waveOf};
+ghost use Rattle.counter.specs.Setting.{settingOf};
+ghost use Rattle.held.specs.Held.{Kept, Foresees, shiftAt};
 
 // No event is to come: past every cycle.
 pub const NEVER: u64 = 0xffff_ffff_ffff_ffff;
@@ -43,7 +49,42 @@ pub fn shift_of(divisor: u32, running: bool) -> u8
     }
 }
 
-// A timer with what is to be kept of it: the next event is sought once.
+// The next event and the shift of a timer.
+pub struct Ahead {
+    pub next: u64,
+    pub flags: u8,
+    pub shift: u8,
+}
+
+// What lies ahead of a timer, from its setting's scene, TOP and the way of its count.
+pub fn foreseen(scene: Scene, top: u32, down: bool, t: Timer) -> Ahead
+    requires { ⌜ (Valid t) × (scene ≡ sceneOf (settingOf t)) × (top ≡ topOf (waveOf t (modeOf t)) (getD (t .ocr) 0 0)) × (down ≡ falls (waveOf t (modeOf t)) (t .counter)) ⌝ }
+    ensures { λ r. ⌜ Foresees t r ⌝ }
+{
+    if t.running() {
+        let counter = t.counter;
+        let ocr = t.ocr;
+        let e = coming(scene, down, counter, top, ocr);
+        let p = t.prescaler();
+        let clock = t.clock;
+        let sync = clock.sync;
+        let last = p.ticks(sync);
+        let at = p.cycle(Ticks(last.0 + (e.ticks as u64)));
+        Ahead {
+            next: at.0,
+            flags: e.flags,
+            shift: shift_of(p.divisor, true),
+        }
+    } else {
+        Ahead {
+            next: NEVER,
+            flags: 0,
+            shift: 63,
+        }
+    }
+}
+
+// A timer with what is to be kept of it.
 pub fn held_of(t: Timer) -> Held
     requires { ⌜ Valid t ⌝ }
     ensures { λ r. ⌜ (r .timer ≡ t) × Kept r ⌝ }
@@ -54,33 +95,15 @@ pub fn held_of(t: Timer) -> Held
     let down = wave.falls(counter);
     let ocr = t.ocr;
     let top = wave.top(ocr[0]);
-    let setting = t.setting(mode, wave);
-    let scene = scene_of(setting);
-    if t.running() {
-        let d = setting.distance(t.moving());
-        let p = t.prescaler();
-        let clock = t.clock;
-        let sync = clock.sync;
-        let last = p.ticks(sync);
-        let at = p.cycle(Ticks(last.0 + (d.ticks as u64)));
-        Held {
-            timer: t,
-            scene,
-            next: at.0,
-            top,
-            flags: d.flags,
-            shift: shift_of(p.divisor, true),
-            down,
-        }
-    } else {
-        Held {
-            timer: t,
-            scene,
-            next: NEVER,
-            top,
-            flags: 0,
-            shift: 63,
-            down,
-        }
+    let scene = scene_of(t.setting(mode, wave));
+    let e = foreseen(scene, top, down, t);
+    Held {
+        timer: t,
+        scene,
+        next: e.next,
+        top,
+        flags: e.flags,
+        shift: e.shift,
+        down,
     }
 }

@@ -54,7 +54,7 @@ module _ (w : Wave) (icr : ℕ) (most : w .source ≤ I) (other : eqb (w .source
   abbrev moved-icr : Wave
   moved-icr = record { kind = w .kind; source = w .source; fixed = w .fixed; max = w .max; icr = icr; a = w .a; b = w .b; c = w .c }
 
-  top-icr : (a : ℕ) → topOf moved-icr a ≡ topOf w a
+  pub top-icr : (a : ℕ) → topOf moved-icr a ≡ topOf w a
   unfolding topOf
   top-icr a = go (eqb (w .source) X) refl (eqb (w .source) A) refl
     where
@@ -63,11 +63,11 @@ module _ (w : Wave) (icr : ℕ) (most : w .source ≤ I) (other : eqb (w .source
       go false p true q = refl
       go false p false q = absurd (omega (arith, eqb-false (w .source) I other, eqb-false (w .source) X p, eqb-false (w .source) A q))
 
-  gap-icr : (c : Counter) (ocr : List ℕ) → gap moved-icr c ocr ≡ gap w c ocr
+  pub gap-icr : (c : Counter) (ocr : List ℕ) → gap moved-icr c ocr ≡ gap w c ocr
   unfolding gap gapAt falls
   gap-icr c ocr = λ j. gapAt w (falls w c) (c .count) ocr (space (falls w c) (c .count) (top-icr (getD ocr 0 0) j) (w .max))
 
-other-top : (t : Timer) (level : ℕ) → captures t level ≡ true → eqb (sourceAt (t .config .wide) (modeOf t)) I ≡ false
+pub other-top : (t : Timer) (level : ℕ) → captures t level ≡ true → eqb (sourceAt (t .config .wide) (modeOf t)) I ≡ false
 unfolding captures
 other-top t level h = not-true (eqb (sourceAt (t .config .wide) (modeOf t)) I) (middle (t .config .icr .present) _ (eqb level (t .registers .tccrb / 64 % 2)) h)
 

@@ -19,7 +19,7 @@ use Rattle.tick.specs.declared.setting.Moving.{Moving}
 use Rattle.tick.specs.declared.setting.Setting.{Setting}
 use Rattle.tick.specs.Outputs.{Outs, levelOf, matched, bottomed, matchesOf, bottomsOf, outputs}
 use Rattle.tick.specs.Tick.{eventsAt, eventsOf, raised, raises, lines, flagEntry, flagLogOf}
-use Rattle.scene.specs.Scene.{Rising, Apart, drivesPin, sceneOf, nearerOf, climbAt, afterAt, limitAt, on, raisedAt, linesOf, toldOf, matchedOf, drivenOf}
+use Rattle.scene.specs.Scene.{Rising, Apart, drivesPin, sceneOf, climbAt, afterAt, limitAt, on, raisedAt, linesOf, toldOf, matchedOf, drivenOf}
 use Rattle.scene.specs.Laws.{topNow, upNow, ClimbIs, AfterIs, LimitIs, RaisedIs, ToldIs, DrivenIs, StillIs}
 use Rattle.tick.proofs.Choices.{and-left}
 use Rattle.scene.proofs.Choices.{and-right, neither}
@@ -33,10 +33,15 @@ rises w c h = let k = leb-true (w .kind) F h in rw (lt-leb P (w .kind) (omega ar
 
 -- ---- the way to the next event
 -- a compare that is not ahead may fall back on any way up to all
-back : (present : Bool) (count compare all g : ℕ) → g ≤ all → nearerOf present count compare g ≡ min g (ahead present false count compare all)
+back : (present down : Bool) (count compare all g : ℕ) → g ≤ all → min g (ahead present down count compare g) ≡ min g (ahead present down count compare all)
 unfolding ahead
-back false count compare all g h = omega arith
-back true count compare all g h = go (leb count compare)
+back false down count compare all g h = omega arith
+back true true count compare all g h = go (leb compare count)
+  where
+    go : (b : Bool) → min g (cond b (count - compare) g) ≡ min g (cond b (count - compare) all)
+    go true = refl
+    go false = omega arith
+back true false count compare all g h = go (leb count compare)
   where
     go : (b : Bool) → min g (cond b (compare - count) g) ≡ min g (cond b (compare - count) all)
     go true = refl
@@ -45,21 +50,22 @@ back true count compare all g h = go (leb count compare)
 order : (all a b c : ℕ) → min (min (min all c) b) a ≡ min (min all a) (min b c)
 order all a b c = omega arith
 
-climbs : (w : Wave) (count all : ℕ) (ocr : List ℕ)
-    → nearerOf (w .a) count (getD ocr 0 0) (nearerOf (w .b) count (getD ocr 1 0) (nearerOf (w .c) count (getD ocr 2 0) all)) ≡ gapAt w false count ocr all
+-- one compare after the other, each no farther than the one before
+pub nears : (w : Wave) (down : Bool) (count all : ℕ) (ocr : List ℕ)
+    → let near : Bool → ℕ → ℕ → ℕ = λ present compare g. min g (ahead present down count compare g) in near (w .a) (getD ocr 0 0) (near (w .b) (getD ocr 1 0) (near (w .c) (getD ocr 2 0) all)) ≡ gapAt w down count ocr all
 unfolding gapAt
-climbs w count all ocr =
-    let n = nearerOf (w .c) count (getD ocr 2 0) all in
-    let a = ahead (w .a) false count (getD ocr 0 0) all in
-    let b = ahead (w .b) false count (getD ocr 1 0) all in
-    let c = ahead (w .c) false count (getD ocr 2 0) all in
-    back (w .a) count (getD ocr 0 0) all (nearerOf (w .b) count (getD ocr 1 0) n) (omega arith)
-    ∙ ap (λ (x : ℕ). min x a) (back (w .b) count (getD ocr 1 0) all n (omega arith))
+nears w down count all ocr =
+    let a = ahead (w .a) down count (getD ocr 0 0) all in
+    let b = ahead (w .b) down count (getD ocr 1 0) all in
+    let c = ahead (w .c) down count (getD ocr 2 0) all in
+    let n = min all c in
+    back (w .a) down count (getD ocr 0 0) all (min n (ahead (w .b) down count (getD ocr 1 0) n)) (omega arith)
+    ∙ ap (λ (x : ℕ). min x a) (back (w .b) down count (getD ocr 1 0) all n (omega arith))
     ∙ order all a b c
 
 pub climb-is : ClimbIs
 unfolding sceneOf climbAt gap
-climb-is s m r = rw (rises (s .wave) (m .counter) (r .kind)) (climbs (s .wave) (m .counter .count) (space false (m .counter .count) (topNow s m) (s .wave .max)) (m .ocr))
+climb-is s m r = rw (rises (s .wave) (m .counter) (r .kind)) (nears (s .wave) false (m .counter .count) (space false (m .counter .count) (topNow s m) (s .wave .max)) (m .ocr))
 
 -- ---- the count after a tick, and TOP
 pub after-is : AfterIs

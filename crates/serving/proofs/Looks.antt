@@ -1,7 +1,7 @@
 -- A call that leaves what is kept: the parts that it changes are put back, and what is kept stands.
 use Prim.Native.Nat.{ℕ}
 use mathlib.Core.Path.{_≡_, refl, sym, ap, subst, _∙_}
-use mathlib.Core.Bool.{Bool, true, false, cond, true≢false}
+use mathlib.Core.Bool.{Bool, true, false, true≢false}
 use mathlib.Core.List.{List}
 use Rattle.tick.specs.Distance.{flagsAhead}
 use Rattle.tick.specs.Skip.{linear}
@@ -16,10 +16,9 @@ use Rattle.counter.specs.Next.{nextAt, nextOf}
 use Rattle.counter.specs.Setting.{settingAt}
 use Rattle.counter.specs.Valid.{Valid}
 use Rattle.passage.specs.Passage.{ticks}
-use Rattle.answers.specs.declared.Outcome.{Outcome}
 use Rattle.answers.specs.Answers.{Tells, turned}
 use Rattle.timer.specs.declared.calls.Call.{Call}
-use Rattle.timer.specs.Calls.{answered, asks, refusalOf}
+use Rattle.timer.specs.Calls.{answered, asks}
 use Rattle.timer.proofs.Outcomes.{plainly}
 use Rattle.held.specs.declared.state.Held.{Held}
 use Rattle.held.specs.declared.reply.Reply.{Reply}
@@ -32,7 +31,7 @@ use Rattle.serving.specs.declared.asked.Wanted.the-variants as wanted
 use Rattle.serving.specs.declared.looking.Looked.{Looked}
 use Rattle.serving.specs.declared.looking.Work.{Work}
 use Rattle.serving.specs.Asks.{asksIn}
-use Rattle.serving.specs.Looking.{refusedBy, stilledIn, passedOf, staysOf, workOf, timskTo, lookedIn, Looks, LooksFor}
+use Rattle.serving.specs.Looking.{refusedBy, passedOf, staysOf, workOf, timskTo, lookedIn, Left, Looks, LooksFor}
 use Rattle.serving.proofs.Laws.{refused-is, passed-ready, passed-kept}
 use Rattle.serving.proofs.Works.{Does, workedTo, works-so, stays-put}
 
@@ -52,12 +51,13 @@ pub refused-looks : (h : Held) (c : Call) (cycle n : ℕ) → Kept h → n ≡ r
     → Looks h c cycle (unchanged true (h .timer) (replied n 5 0 0 0 0))
 refused-looks h c cycle n k e z = record {
   done = λ _. subst (λ (g : Held). Served (h .timer) c cycle g (replied n 5 0 0 0 0)) (sym (same-looked h true (replied n 5 0 0 0 0) k)) (turned-serves h c cycle n k (sym (refused-is h c cycle k) ∙ sym e) z);
+  same = λ f. absurd (true≢false f);
   left = λ f. absurd (true≢false f);
 }
 
 -- left to others
-pub left-looks : (h : Held) (c : Call) (cycle : ℕ) (reply : Reply) → Kept h → Looks h c cycle (unchanged false (h .timer) reply)
-left-looks h c cycle reply k = record { done = λ f. absurd (true≢false (sym f)); left = λ _. same-looked h false reply k }
+pub left-looks : (h : Held) (c : Call) (cycle : ℕ) (reply : Reply) → Kept h → Left h c cycle → Looks h c cycle (unchanged false (h .timer) reply)
+left-looks h c cycle reply k l = record { done = λ f. absurd (true≢false (sym f)); same = λ _. same-looked h false reply k; left = λ _. l }
 
 -- ---- done
 abbrev pub changed : Timer → Work → ℕ → Reply → Looked
@@ -105,16 +105,18 @@ module _ (h : Held) (c : Call) (cycle : ℕ) (k : Kept h) (e : refusedBy (asksIn
   pub done-looks : Looks h c cycle (changed s w cycle (replied 0 (w .what) (w .value) 0 (h .next) (h .flags)))
   done-looks = record {
     done = λ _. subst (λ (g : Held). Served t c cycle g (replied 0 (w .what) (w .value) 0 (h .next) (h .flags))) (sym (put-is h (asks t c .syncs) w cycle (replied 0 (w .what) (w .value) 0 (h .next) (h .flags)))) serves;
+    same = λ f. absurd (true≢false f);
     left = λ f. absurd (true≢false f);
   }
 
 -- ---- by its number
 pub known-looks : (w : Wanted) (h : Held) (c : Call) (cycle : ℕ) (r : Looked) → w ≡ wanted.Known c → Looks h c cycle r → LooksFor h w cycle r
-known-looks w h c cycle r e l = rw e (record { done = l .done; left = l .left })
+known-looks w h c cycle r e l = rw e (record { done = l .done; same = l .same; left = l .left })
 
 pub unknown-looks : (w : Wanted) (h : Held) (cycle : ℕ) → Kept h → w ≡ wanted.Unknown → LooksFor h w cycle (unchanged true (h .timer) (replied 255 5 0 0 0 0))
 unknown-looks w h cycle k e = rw e
     (record {
       done = λ _ area. subst (λ (g : Held). Serves (turned 255 (h .timer) area) g (replied 255 5 0 0 0 0) area) (sym (same-looked h true (replied 255 5 0 0 0 0) k)) (record { timer = refl; reply = refl; area = refl; kept = k });
+      same = λ f. absurd (true≢false f);
       left = λ f. absurd (true≢false f);
     })

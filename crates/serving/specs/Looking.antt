@@ -8,23 +8,22 @@ use lib.Dec.{eqb, leb}
 use Rattle.time.specs.Halts.{routeTo}
 use Rattle.time.specs.Units.{lateAt}
 use Rattle.scene.specs.declared.state.Scene.{Scene}
-use Rattle.counter.specs.declared.state.Flags.{Flags}
-use Rattle.counter.specs.declared.state.Registers.{Registers}
 use Rattle.counter.specs.declared.state.Timer.{Timer}
 use Rattle.counter.specs.Registers.{peeked, readValue, readTimer}
-use Rattle.timer.specs.Calls.{placed, edgeTicks}
+use Rattle.timer.specs.Calls.{placed, edgeTicks, asks}
 use Rattle.timer.specs.declared.calls.Call.{Call}
 use Rattle.timer.specs.declared.calls.Call.the-variants as call
 use Rattle.held.specs.declared.state.Held.{Held}
-use Rattle.held.specs.declared.reply.Reply.{Reply}
 use Rattle.held.specs.Held.{never}
 use Rattle.held.specs.Quick.{stilled}
 use Rattle.held.specs.Reply.{Serves, Served}
 use Rattle.serving.specs.declared.asked.Wanted.{Wanted}
+use Rattle.serving.specs.declared.asked.Wanted.the-variants as wanted
 use Rattle.serving.specs.declared.asks.Asks.{Asks}
 use Rattle.serving.specs.declared.looking.Looked.{Looked}
 use Rattle.serving.specs.declared.looking.Work.{Work}
 use Rattle.serving.specs.Asked.{answeredTo}
+use Rattle.serving.specs.Asks.{asksIn}
 
 -- ---- before the work
 
@@ -134,12 +133,24 @@ lookedIn h r = record {
   down = h .down;
 }
 
--- a call that is done is served, and one that is not has changed nothing
+-- a call that is accepted, and changes what is kept
+pub record Left (h : Held) (c : Call) (cycle : ℕ) : Type 0 where
+  pub accepted : refusedBy (asksIn (asks (h .timer) c)) (h .timer .clock .latest .0) (h .next) cycle ≡ 0
+  pub turns : staysOf (h .timer) (asks (h .timer) c .syncs) c ≡ false
+
+-- the same, of a call by its number
+abbrev pub LeftFor : Held → Wanted → ℕ → Type 0
+LeftFor h (wanted.Known c) cycle = Left h c cycle
+LeftFor h wanted.Unknown cycle = ⊥
+
+-- a call that is done is served; one that is not has changed nothing, and is left to others
 pub record Looks (h : Held) (c : Call) (cycle : ℕ) (r : Looked) : Type 0 where
   pub done : r .done ≡ true → Served (h .timer) c cycle (lookedIn h r) (r .reply)
-  pub left : r .done ≡ false → lookedIn h r ≡ h
+  pub same : r .done ≡ false → lookedIn h r ≡ h
+  pub left : r .done ≡ false → Left h c cycle
 
 -- the same, of a call by its number
 pub record LooksFor (h : Held) (w : Wanted) (cycle : ℕ) (r : Looked) : Type 0 where
   pub done : r .done ≡ true → (area : List ℕ) → Serves (answeredTo (h .timer) w cycle area) (lookedIn h r) (r .reply) area
-  pub left : r .done ≡ false → lookedIn h r ≡ h
+  pub same : r .done ≡ false → lookedIn h r ≡ h
+  pub left : r .done ≡ false → LeftFor h w cycle

@@ -64,13 +64,17 @@ fn placed(place: u8, tested: bool, syncs: bool) -> Asks
 }
 
 // Does an edge of a pin capture.
-fn edge_captures(t: Timer, pin: u8, level: u8) -> bool
+pub fn edge_captures(t: Timer, pin: u8, level: u8) -> bool
     ensures { λ r. ⌜ r ≡ edgeCaptures t pin level ⌝ }
 {
     let config = t.config;
     let icr = config.icr;
     let halts = t.halts;
-    is_pin(icr.wire, pin) & !halts.routed & captures(t, level)
+    if is_pin(icr.wire, pin) & !halts.routed {
+        captures(t, level)
+    } else {
+        false
+    }
 }
 
 // Does an edge of a pin tick.
@@ -78,7 +82,11 @@ pub fn edge_ticks(t: Timer, pin: u8, level: u8) -> bool
     ensures { λ r. ⌜ r ≡ edgeTicks t pin level ⌝ }
 {
     let config = t.config;
-    is_pin(config.t, pin) & ticks_on(t, level)
+    if is_pin(config.t, pin) {
+        ticks_on(t, level)
+    } else {
+        false
+    }
 }
 
 // A read lets time pass but of a high byte.

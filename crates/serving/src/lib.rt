@@ -1,6 +1,5 @@
-// Any call on a held timer, by value: one that leaves what is kept changes a few parts alone.
+// Any call on a held timer, by value: one that leaves what is kept changes a few parts alone, any other is left to others.
 
 pub mod asked;
-mod asks;
+pub mod asks;
 pub mod looking;
-pub mod steps;

@@ -20,6 +20,8 @@ use denote.Laws.{Is}
 use Rattle.shell.proofs.Raws.{part-raw}
 use Rattle.wave.specs.declared.count.Counter.{Counter}
 use Rattle.time.specs.declared.clock.Clock.{Clock}
+use Rattle.counter.specs.declared.state.Timer.{Timer}
+use Rattle.counter.proofs.state.Timer as Z
 use Rattle.counter.proofs.state.Timer.Laws as Z′
 use Rattle.config.proofs.Config.Laws as Q′
 use Rattle.counter.proofs.state.Registers.Laws as U′
@@ -29,15 +31,19 @@ use Rattle.counter.proofs.state.Flags.Laws as X′
 use denote.Memory.{cellAt}
 use denote.Struct.Laws as LL
 use Rattle.held.specs.declared.state.Held.{Held}
-use Rattle.held.proofs.Puts.{latestIn, tifrIn, tempIn, counterIn, clockIn, bufferIn, waitingIn}
-use Rattle.shell.proofs.Places.{held-of, timer-of, scene-of, config-of, registers-of, flags-of, halts-of, drives-of, clock-of, counter-of, cycle-of, Words, words-of, words-typed, Bytes, bytes-of, bytes-typed, nextIn, topIn, bitsIn, syncIn, countIn, odometerIn, ocrIn, ocIn, drivesIn, raisedIn, routedIn, timskIn}
+use Rattle.held.proofs.Puts.{timerTo, latestIn, tifrIn, tempIn, counterIn, clockIn, bufferIn, waitingIn}
+use Rattle.shell.proofs.Places.{held-of, timer-of, scene-of, config-of, registers-of, flags-of, halts-of, drives-of, clock-of, counter-of, cycle-of, Words, words-of, words-typed, Bytes, bytes-of, bytes-typed, nextIn, topIn, bitsIn, syncIn, countIn, odometerIn, ocrIn, ocIn, drivesIn, raisedIn, routedIn, timskIn, shiftIn, downIn, sceneIn, icrIn, haltsIn}
 use Rattle.tick.specs.declared.setting.Drives.{Drives}
 use Rattle.tick.proofs.setting.Drives as G
 use Rattle.tick.proofs.setting.Drives.Laws as G′
+use Rattle.scene.specs.declared.state.Scene.{Scene}
+use Rattle.scene.proofs.state.Scene as S
 use Rattle.scene.proofs.state.Scene.Laws as S′
 use Rattle.time.proofs.units.Cycle.Laws as N′
 use Rattle.time.proofs.clock.Clock as J
 use Rattle.time.proofs.clock.Clock.Laws as J′
+use Rattle.time.specs.declared.halts.Halts.{Halts}
+use Rattle.time.proofs.halts.Halts as L
 use Rattle.time.proofs.halts.Halts.Laws as L′
 use Rattle.wave.proofs.count.Counter as Y
 use Rattle.wave.proofs.count.Counter.Laws as Y′
@@ -121,6 +127,9 @@ blocked-at = refl
 pub odometer-at : fieldOf Y′.mir 3 ≡ some-at (tyInt w64, 16)
 odometer-at = refl
 
+pub icr-at : fieldOf U′.mir 2 ≡ some-at (tyInt w32, 4)
+icr-at = refl
+
 pub temp-at : fieldOf U′.mir 3 ≡ some-at (tyInt w8, 8)
 temp-at = refl
 
@@ -151,6 +160,12 @@ within (vint w n) k u = u
 within (vfloat f x) k u = u
 within (vptr b o) k u = u
 within (vstruct vs) k u = vstruct (setV vs k u)
+
+abbrev with-timer : Held → Val → Val
+with-timer h u = within (held-of h) 0 u
+
+abbrev with-scene : Held → Val → Val
+with-scene h u = within (held-of h) 1 u
 
 abbrev with-next : Held → Val → Val
 with-next h u = within (held-of h) 2 u
@@ -209,6 +224,9 @@ with-drives h u = within (held-of h) 0 (within (timer-of (h .timer)) 5 u)
 abbrev with-wide : Held → Val → Val
 with-wide h u = within (held-of h) 0 (within (timer-of (h .timer)) 0 (within (config-of (h .timer .config)) 1 u))
 
+abbrev with-icr : Held → Val → Val
+with-icr h u = within (held-of h) 0 (within (timer-of (h .timer)) 6 (within (registers-of (h .timer .registers)) 2 u))
+
 abbrev with-temp : Held → Val → Val
 with-temp h u = within (held-of h) 0 (within (timer-of (h .timer)) 6 (within (registers-of (h .timer .registers)) 3 u))
 
@@ -217,6 +235,9 @@ with-tifr h u = within (held-of h) 0 (within (timer-of (h .timer)) 7 (within (fl
 
 abbrev with-raised : Held → Val → Val
 with-raised h u = within (held-of h) 0 (within (timer-of (h .timer)) 7 u)
+
+abbrev with-halts : Held → Val → Val
+with-halts h u = within (held-of h) 0 (within (timer-of (h .timer)) 9 u)
 
 abbrev with-routed : Held → Val → Val
 with-routed h u = within (held-of h) 0 (within (timer-of (h .timer)) 9 (within (halts-of (h .timer .halts)) 4 u))
@@ -228,6 +249,12 @@ abbrev with-clock : Held → Val → Val
 with-clock h u = within (held-of h) 0 (within (timer-of (h .timer)) 8 u)
 
 module _ {M : Type 1} {𝓤 : URA M} {H : Heap 𝓤} {A : Atoms 𝓤} {K : Type 0} {W : Given 𝓤 H A} where
+  timer-part : K → {q : Share} {b o : ℕ} (h : Held) → Part K W (‵ (cell q h b o)) q (Z′.mir) b (o + 0) (timer-of (h .timer)) (λ u. ‵ (valued q b o (with-timer h u)))
+  timer-part t h = part-raw Z′.mir (sub t 0 refl (whole t))
+
+  scene-part : K → {q : Share} {b o : ℕ} (h : Held) → Part K W (‵ (cell q h b o)) q (S′.mir) b (o + 184) (scene-of (h .scene)) (λ u. ‵ (valued q b o (with-scene h u)))
+  scene-part t h = part-raw S′.mir (sub t 1 refl (whole t))
+
   next-part : K → {q : Share} {b o : ℕ} (h : Held) → Part K W (‵ (cell q h b o)) q (tyInt w64) b (o + 232) (vint w64 (h .next)) (λ u. ‵ (valued q b o (with-next h u)))
   next-part t h = sub t 2 refl (whole t)
 
@@ -285,6 +312,9 @@ module _ {M : Type 1} {𝓤 : URA M} {H : Heap 𝓤} {A : Atoms 𝓤} {K : Type 
   wide-part : K → {q : Share} {b o : ℕ} (h : Held) → Part K W (‵ (cell q h b o)) q (tyBool) b (o + 0 + 0 + 1) (vbool (h .timer .config .wide)) (λ u. ‵ (valued q b o (with-wide h u)))
   wide-part t h = sub t 1 refl (sub t 0 refl (sub t 0 refl (whole t)))
 
+  icr-part : K → {q : Share} {b o : ℕ} (h : Held) → Part K W (‵ (cell q h b o)) q (tyInt w32) b (o + 0 + 116 + 4) (vint w32 (h .timer .registers .icr)) (λ u. ‵ (valued q b o (with-icr h u)))
+  icr-part t h = sub t 2 refl (sub t 6 refl (sub t 0 refl (whole t)))
+
   temp-part : K → {q : Share} {b o : ℕ} (h : Held) → Part K W (‵ (cell q h b o)) q (tyInt w8) b (o + 0 + 116 + 8) (vint w8 (h .timer .registers .temp)) (λ u. ‵ (valued q b o (with-temp h u)))
   temp-part t h = sub t 3 refl (sub t 6 refl (sub t 0 refl (whole t)))
 
@@ -293,6 +323,9 @@ module _ {M : Type 1} {𝓤 : URA M} {H : Heap 𝓤} {A : Atoms 𝓤} {K : Type 
 
   raised-part : K → {q : Share} {b o : ℕ} (h : Held) → Part K W (‵ (cell q h b o)) q (X′.mir) b (o + 0 + 128) (flags-of (h .timer .flags)) (λ u. ‵ (valued q b o (with-raised h u)))
   raised-part t h = part-raw X′.mir (sub t 7 refl (sub t 0 refl (whole t)))
+
+  halts-part : K → {q : Share} {b o : ℕ} (h : Held) → Part K W (‵ (cell q h b o)) q (L′.mir) b (o + 0 + 160) (halts-of (h .timer .halts)) (λ u. ‵ (valued q b o (with-halts h u)))
+  halts-part t h = part-raw L′.mir (sub t 9 refl (sub t 0 refl (whole t)))
 
   routed-part : K → {q : Share} {b o : ℕ} (h : Held) → Part K W (‵ (cell q h b o)) q (tyBool) b (o + 0 + 160 + 18) (vbool (h .timer .halts .routed)) (λ u. ‵ (valued q b o (with-routed h u)))
   routed-part t h = sub t 4 refl (sub t 9 refl (sub t 0 refl (whole t)))
@@ -304,6 +337,15 @@ module _ {M : Type 1} {𝓤 : URA M} {H : Heap 𝓤} {A : Atoms 𝓤} {K : Type 
   clock-part t h = part-raw J′.mir (sub t 8 refl (sub t 0 refl (whole t)))
 
   module _ {Γ : List (Item 𝓤)} where
+    pub timer-read : K → (i : ℕ) {q : Share} {b o : ℕ} (h : Held) → nth 𝓤 H A i Γ ≡ ‵ (cell q h b o) → Reads K W Γ (Z′.mir) b (o + 0) (timer-of (h .timer))
+    timer-read t i {q} {b} {o} h e = look-in t i (subst (λ (j : Item 𝓤). Part K W j q (Z′.mir) b (o + 0) (timer-of (h .timer)) (λ u. ‵ (valued q b o (with-timer h u)))) (sym e) (timer-part t h))
+
+    pub timer-stored : K → (i : ℕ) {b o : ℕ} (h : Held) (n : Timer) → Is Z.the-row n (timer-of n ∷ []) → nth 𝓤 H A i Γ ≡ ‵ (cell fullShare h b o) → Writes K W Γ (Z′.mir) b (o + 0) (timer-of (n)) (put 𝓤 H A i (‵ (cell fullShare (timerTo h n) b o)) Γ)
+    timer-stored t i {b} {o} h n f e = store-in t i (subst (λ (j : Item 𝓤). Part K W j fullShare (Z′.mir) b (o + 0) (timer-of (h .timer)) (λ u. ‵ (valued fullShare b o (with-timer h u)))) (sym e) (timer-part t h)) (LL.lawful Z.the-type Z′.the-laws 𝓤 H A W .typed (n) _ (f) .0)
+
+    pub scene-stored : K → (i : ℕ) {b o : ℕ} (h : Held) (n : Scene) → Is S.the-row n (scene-of n ∷ []) → nth 𝓤 H A i Γ ≡ ‵ (cell fullShare h b o) → Writes K W Γ (S′.mir) b (o + 184) (scene-of (n)) (put 𝓤 H A i (‵ (cell fullShare (sceneIn h n) b o)) Γ)
+    scene-stored t i {b} {o} h n f e = store-in t i (subst (λ (j : Item 𝓤). Part K W j fullShare (S′.mir) b (o + 184) (scene-of (h .scene)) (λ u. ‵ (valued fullShare b o (with-scene h u)))) (sym e) (scene-part t h)) (LL.lawful S.the-type S′.the-laws 𝓤 H A W .typed (n) _ (f) .0)
+
     pub next-read : K → (i : ℕ) {q : Share} {b o : ℕ} (h : Held) → nth 𝓤 H A i Γ ≡ ‵ (cell q h b o) → Reads K W Γ (tyInt w64) b (o + 232) (vint w64 (h .next))
     next-read t i {q} {b} {o} h e = look-in t i (subst (λ (j : Item 𝓤). Part K W j q (tyInt w64) b (o + 232) (vint w64 (h .next)) (λ u. ‵ (valued q b o (with-next h u)))) (sym e) (next-part t h))
 
@@ -322,8 +364,14 @@ module _ {M : Type 1} {𝓤 : URA M} {H : Heap 𝓤} {A : Atoms 𝓤} {K : Type 
     pub shift-read : K → (i : ℕ) {q : Share} {b o : ℕ} (h : Held) → nth 𝓤 H A i Γ ≡ ‵ (cell q h b o) → Reads K W Γ (tyInt w8) b (o + 245) (vint w8 (h .shift))
     shift-read t i {q} {b} {o} h e = look-in t i (subst (λ (j : Item 𝓤). Part K W j q (tyInt w8) b (o + 245) (vint w8 (h .shift)) (λ u. ‵ (valued q b o (with-shift h u)))) (sym e) (shift-part t h))
 
+    pub shift-stored : K → (i : ℕ) {b o : ℕ} (h : Held) (n : ℕ) → n < 2 ^ 8 → nth 𝓤 H A i Γ ≡ ‵ (cell fullShare h b o) → Writes K W Γ (tyInt w8) b (o + 245) (vint w8 (n)) (put 𝓤 H A i (‵ (cell fullShare (shiftIn h n) b o)) Γ)
+    shift-stored t i {b} {o} h n f e = store-in t i (subst (λ (j : Item 𝓤). Part K W j fullShare (tyInt w8) b (o + 245) (vint w8 (h .shift)) (λ u. ‵ (valued fullShare b o (with-shift h u)))) (sym e) (shift-part t h)) (tt, record { fits = f })
+
     pub down-read : K → (i : ℕ) {q : Share} {b o : ℕ} (h : Held) → nth 𝓤 H A i Γ ≡ ‵ (cell q h b o) → Reads K W Γ (tyBool) b (o + 246) (vbool (h .down))
     down-read t i {q} {b} {o} h e = look-in t i (subst (λ (j : Item 𝓤). Part K W j q (tyBool) b (o + 246) (vbool (h .down)) (λ u. ‵ (valued q b o (with-down h u)))) (sym e) (down-part t h))
+
+    pub down-stored : K → (i : ℕ) {b o : ℕ} (h : Held) (n : Bool) → nth 𝓤 H A i Γ ≡ ‵ (cell fullShare h b o) → Writes K W Γ (tyBool) b (o + 246) (vbool (n)) (put 𝓤 H A i (‵ (cell fullShare (downIn h n) b o)) Γ)
+    down-stored t i {b} {o} h n e = store-in t i (subst (λ (j : Item 𝓤). Part K W j fullShare (tyBool) b (o + 246) (vbool (h .down)) (λ u. ‵ (valued fullShare b o (with-down h u)))) (sym e) (down-part t h)) (tt, tt)
 
     pub kind-read : K → (i : ℕ) {q : Share} {b o : ℕ} (h : Held) → nth 𝓤 H A i Γ ≡ ‵ (cell q h b o) → Reads K W Γ (tyInt w8) b (o + 184 + 16) (vint w8 (h .scene .kind))
     kind-read t i {q} {b} {o} h e = look-in t i (subst (λ (j : Item 𝓤). Part K W j q (tyInt w8) b (o + 184 + 16) (vint w8 (h .scene .kind)) (λ u. ‵ (valued q b o (with-kind h u)))) (sym e) (kind-part t h))
@@ -370,6 +418,9 @@ module _ {M : Type 1} {𝓤 : URA M} {H : Heap 𝓤} {A : Atoms 𝓤} {K : Type 
     pub wide-read : K → (i : ℕ) {q : Share} {b o : ℕ} (h : Held) → nth 𝓤 H A i Γ ≡ ‵ (cell q h b o) → Reads K W Γ (tyBool) b (o + 0 + 0 + 1) (vbool (h .timer .config .wide))
     wide-read t i {q} {b} {o} h e = look-in t i (subst (λ (j : Item 𝓤). Part K W j q (tyBool) b (o + 0 + 0 + 1) (vbool (h .timer .config .wide)) (λ u. ‵ (valued q b o (with-wide h u)))) (sym e) (wide-part t h))
 
+    pub icr-stored : K → (i : ℕ) {b o : ℕ} (h : Held) (n : ℕ) → n < 2 ^ 32 → nth 𝓤 H A i Γ ≡ ‵ (cell fullShare h b o) → Writes K W Γ (tyInt w32) b (o + 0 + 116 + 4) (vint w32 (n)) (put 𝓤 H A i (‵ (cell fullShare (icrIn h n) b o)) Γ)
+    icr-stored t i {b} {o} h n f e = store-in t i (subst (λ (j : Item 𝓤). Part K W j fullShare (tyInt w32) b (o + 0 + 116 + 4) (vint w32 (h .timer .registers .icr)) (λ u. ‵ (valued fullShare b o (with-icr h u)))) (sym e) (icr-part t h)) (tt, record { fits = f })
+
     pub temp-read : K → (i : ℕ) {q : Share} {b o : ℕ} (h : Held) → nth 𝓤 H A i Γ ≡ ‵ (cell q h b o) → Reads K W Γ (tyInt w8) b (o + 0 + 116 + 8) (vint w8 (h .timer .registers .temp))
     temp-read t i {q} {b} {o} h e = look-in t i (subst (λ (j : Item 𝓤). Part K W j q (tyInt w8) b (o + 0 + 116 + 8) (vint w8 (h .timer .registers .temp)) (λ u. ‵ (valued q b o (with-temp h u)))) (sym e) (temp-part t h))
 
@@ -384,6 +435,9 @@ module _ {M : Type 1} {𝓤 : URA M} {H : Heap 𝓤} {A : Atoms 𝓤} {K : Type 
 
     pub raised-stored : K → (i : ℕ) {b o : ℕ} (h : Held) (n : Flags) → Is X.the-row n (flags-of n ∷ []) → nth 𝓤 H A i Γ ≡ ‵ (cell fullShare h b o) → Writes K W Γ (X′.mir) b (o + 0 + 128) (flags-of (n)) (put 𝓤 H A i (‵ (cell fullShare (raisedIn h n) b o)) Γ)
     raised-stored t i {b} {o} h n f e = store-in t i (subst (λ (j : Item 𝓤). Part K W j fullShare (X′.mir) b (o + 0 + 128) (flags-of (h .timer .flags)) (λ u. ‵ (valued fullShare b o (with-raised h u)))) (sym e) (raised-part t h)) (LL.lawful X.the-type X′.the-laws 𝓤 H A W .typed (n) _ (f) .0)
+
+    pub halts-stored : K → (i : ℕ) {b o : ℕ} (h : Held) (n : Halts) → Is L.the-row n (halts-of n ∷ []) → nth 𝓤 H A i Γ ≡ ‵ (cell fullShare h b o) → Writes K W Γ (L′.mir) b (o + 0 + 160) (halts-of (n)) (put 𝓤 H A i (‵ (cell fullShare (haltsIn h n) b o)) Γ)
+    halts-stored t i {b} {o} h n f e = store-in t i (subst (λ (j : Item 𝓤). Part K W j fullShare (L′.mir) b (o + 0 + 160) (halts-of (h .timer .halts)) (λ u. ‵ (valued fullShare b o (with-halts h u)))) (sym e) (halts-part t h)) (LL.lawful L.the-type L′.the-laws 𝓤 H A W .typed (n) _ (f) .0)
 
     pub routed-stored : K → (i : ℕ) {b o : ℕ} (h : Held) (n : Bool) → nth 𝓤 H A i Γ ≡ ‵ (cell fullShare h b o) → Writes K W Γ (tyBool) b (o + 0 + 160 + 18) (vbool (n)) (put 𝓤 H A i (‵ (cell fullShare (routedIn h n) b o)) Γ)
     routed-stored t i {b} {o} h n e = store-in t i (subst (λ (j : Item 𝓤). Part K W j fullShare (tyBool) b (o + 0 + 160 + 18) (vbool (h .timer .halts .routed)) (λ u. ‵ (valued fullShare b o (with-routed h u)))) (sym e) (routed-part t h)) (tt, tt)

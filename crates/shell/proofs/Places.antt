@@ -26,7 +26,7 @@ use Rattle.counter.specs.declared.state.Timer.{Timer}
 use Rattle.time.specs.Clock.{acceptedAt}
 use Rattle.time.specs.Halts.{routeTo}
 use Rattle.counter.specs.Parts.{clockTo, comparesTo, haltsTo}
-use Rattle.counter.specs.Registers.{tempTo}
+use Rattle.counter.specs.Registers.{tempTo, icrTo}
 use Rattle.held.specs.declared.state.Held.{Held}
 use Rattle.held.proofs.Puts.{timerTo, counterTo, latestIn, tifrIn, tempIn, counterIn, clockIn, bufferIn, waitingTo, waitingIn}
 use Rattle.serving.specs.Looking.{timskTo}
@@ -134,6 +134,9 @@ IsFlags f = Is X.the-row f (flags-of f ∷ [])
 abbrev IsHalts : Halts → Type 0
 IsHalts k = Is L.the-row k (halts-of k ∷ [])
 
+abbrev IsScene : Scene → Type 0
+IsScene s = Is S.the-row s (scene-of s ∷ [])
+
 abbrev IsClock : Clock → Type 0
 IsClock k = Is K.the-row k (clock-of k ∷ [])
 
@@ -144,7 +147,7 @@ abbrev IsCycle : Cycle → Type 0
 IsCycle n = Is N.the-row n (cycle-of n ∷ [])
 
 -- ---- what is known of a part
-timer-in : (h : Held) → IsHeld h → IsTimer (h .timer)
+pub timer-in : (h : Held) → IsHeld h → IsTimer (h .timer)
 timer-in h w = LL.owed H.the-type H′.the-laws h _ w .0
 
 pub config-in : (h : Held) → IsHeld h → Is Q.the-row (h .timer .config) (config-of (h .timer .config) ∷ [])
@@ -196,6 +199,15 @@ topIn h n = record { timer = h .timer; scene = h .scene; next = h .next; top = n
 abbrev pub bitsIn : Held → ℕ → Held
 bitsIn h n = record { timer = h .timer; scene = h .scene; next = h .next; top = h .top; flags = n; shift = h .shift; down = h .down }
 
+abbrev pub shiftIn : Held → ℕ → Held
+shiftIn h n = record { timer = h .timer; scene = h .scene; next = h .next; top = h .top; flags = h .flags; shift = n; down = h .down }
+
+abbrev pub downIn : Held → Bool → Held
+downIn h on = record { timer = h .timer; scene = h .scene; next = h .next; top = h .top; flags = h .flags; shift = h .shift; down = on }
+
+abbrev pub sceneIn : Held → Scene → Held
+sceneIn h s = record { timer = h .timer; scene = s; next = h .next; top = h .top; flags = h .flags; shift = h .shift; down = h .down }
+
 abbrev counted : Counter → ℕ → ℕ → Counter
 counted c n m = record { count = n; direction = c .direction; blocked = c .blocked; odometer = m }
 
@@ -229,13 +241,19 @@ raisedTo t f = record { config = t .config; counter = t .counter; ocr = t .ocr; 
 abbrev pub raisedIn : Held → Flags → Held
 raisedIn h f = timerTo h (raisedTo (h .timer) f)
 
+abbrev pub icrIn : Held → ℕ → Held
+icrIn h n = timerTo h (icrTo (h .timer) n)
+
+abbrev pub haltsIn : Held → Halts → Held
+haltsIn h k = timerTo h (haltsTo (h .timer) k)
+
 abbrev pub routedIn : Held → Bool → Held
 routedIn h on = timerTo h (haltsTo (h .timer) (routeTo (h .timer .halts) on))
 
 abbrev pub timskIn : Held → ℕ → Held
 timskIn h n = record { timer = h .timer; scene = timskTo (h .scene) n; next = h .next; top = h .top; flags = h .flags; shift = h .shift; down = h .down }
 
-timer-put : (h : Held) (t : Timer) → IsHeld h → IsTimer t → IsHeld (timerTo h t)
+pub timer-put : (h : Held) (t : Timer) → IsHeld h → IsTimer t → IsHeld (timerTo h t)
 timer-put h t w u = let p = LL.owed H.the-type H′.the-laws h _ w in LL.owes H.the-type H′.the-laws (timerTo h t) (u, p .1)
 
 pub counter-put : (h : Held) (c : Counter) → IsHeld h → IsCounter c → IsHeld (counterIn h c)
@@ -281,6 +299,14 @@ temp-put h n f w =
       ),
     ))
 
+pub icr-put : (h : Held) (n : ℕ) → n < 2 ^ 32 → IsHeld h → IsHeld (icrIn h n)
+icr-put h n f w =
+    let t : Timer = icrIn h n .timer in
+    let p = LL.owed T.the-type T′.the-laws (h .timer) _ (timer-in h w) in
+    let g = LL.owed U.the-type U′.the-laws (h .timer .registers) _ (registers-in h w) in
+    let u : IsRegisters (t .registers) = LL.owes U.the-type U′.the-laws (t .registers) (g .0, (g .1 .0, ((refl, f), g .1 .1 .1))) in
+    timer-put h t w (LL.owes T.the-type T′.the-laws t (p .0, (p .1 .0, (p .1 .1 .0, (p .1 .1 .1 .0, (p .1 .1 .1 .1 .0, (p .1 .1 .1 .1 .1 .0, (u, p .1 .1 .1 .1 .1 .1 .1))))))))
+
 pub tifr-put : (h : Held) (n : ℕ) → n < 2 ^ 8 → IsHeld h → IsHeld (tifrIn h n)
 tifr-put h n f w =
     let p = LL.owed T.the-type T′.the-laws (h .timer) _ (timer-in h w) in
@@ -319,6 +345,15 @@ top-put h n f w = let p = LL.owed H.the-type H′.the-laws h _ w in LL.owes H.th
 
 pub bits-put : (h : Held) (n : ℕ) → n < 2 ^ 8 → IsHeld h → IsHeld (bitsIn h n)
 bits-put h n f w = let p = LL.owed H.the-type H′.the-laws h _ w in LL.owes H.the-type H′.the-laws (bitsIn h n) (p .0, (p .1 .0, (p .1 .1 .0, (p .1 .1 .1 .0, ((refl, f), p .1 .1 .1 .1 .1)))))
+
+pub shift-put : (h : Held) (n : ℕ) → n < 2 ^ 8 → IsHeld h → IsHeld (shiftIn h n)
+shift-put h n f w = let p = LL.owed H.the-type H′.the-laws h _ w in LL.owes H.the-type H′.the-laws (shiftIn h n) (p .0, (p .1 .0, (p .1 .1 .0, (p .1 .1 .1 .0, (p .1 .1 .1 .1 .0, ((refl, f), p .1 .1 .1 .1 .1 .1))))))
+
+pub down-put : (h : Held) (on : Bool) → IsHeld h → IsHeld (downIn h on)
+down-put h on w = let p = LL.owed H.the-type H′.the-laws h _ w in LL.owes H.the-type H′.the-laws (downIn h on) (p .0, (p .1 .0, (p .1 .1 .0, (p .1 .1 .1 .0, (p .1 .1 .1 .1 .0, (p .1 .1 .1 .1 .1 .0, (refl, tt)))))))
+
+pub scene-put : (h : Held) (s : Scene) → IsHeld h → IsScene s → IsHeld (sceneIn h s)
+scene-put h s w u = let p = LL.owed H.the-type H′.the-laws h _ w in LL.owes H.the-type H′.the-laws (sceneIn h s) (p .0, (u, p .1 .1))
 
 pub count-put : (h : Held) (n : ℕ) → n < 2 ^ 32 → IsHeld h → IsHeld (countIn h n)
 count-put h n f w =
@@ -366,6 +401,12 @@ pub raised-put : (h : Held) (f : Flags) → IsHeld h → IsFlags f → IsHeld (r
 raised-put h f w u =
     let t : Timer = raisedIn h f .timer in
     let p = LL.owed T.the-type T′.the-laws (h .timer) _ (timer-in h w) in timer-put h t w (LL.owes T.the-type T′.the-laws t (p .0, (p .1 .0, (p .1 .1 .0, (p .1 .1 .1 .0, (p .1 .1 .1 .1 .0, (p .1 .1 .1 .1 .1 .0, (p .1 .1 .1 .1 .1 .1 .0, (u, p .1 .1 .1 .1 .1 .1 .1 .1)))))))))
+
+pub halts-put : (h : Held) (k : Halts) → IsHeld h → IsHalts k → IsHeld (haltsIn h k)
+halts-put h k w u =
+    let t : Timer = haltsIn h k .timer in
+    let p = LL.owed T.the-type T′.the-laws (h .timer) _ (timer-in h w) in
+    timer-put h t w (LL.owes T.the-type T′.the-laws t (p .0, (p .1 .0, (p .1 .1 .0, (p .1 .1 .1 .0, (p .1 .1 .1 .1 .0, (p .1 .1 .1 .1 .1 .0, (p .1 .1 .1 .1 .1 .1 .0, (p .1 .1 .1 .1 .1 .1 .1 .0, (p .1 .1 .1 .1 .1 .1 .1 .1 .0, (u, tt)))))))))))
 
 pub routed-put : (h : Held) (on : Bool) → IsHeld h → IsHeld (routedIn h on)
 routed-put h on w =

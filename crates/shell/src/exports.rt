@@ -4,7 +4,6 @@ use climbing::rising;
 use climbing::strikes;
 use config::Config;
 use counter::state::Timer;
-use held::calls::advance;
 use held::quick::clearing;
 use held::quick::counting;
 use held::quick::nexting;
@@ -12,9 +11,16 @@ use held::quick::refusing;
 use held::quick::stilling;
 use held::reply::Reply;
 use held::state::Held;
+use held::state::NEVER;
 use held::state::held_of;
 use held::write::buffering;
 use held::write::way_of;
+use renewing::edges::catches;
+use renewing::edges::catching;
+use renewing::edges::ticking;
+use renewing::halts::turning;
+use renewing::onward::going;
+use renewing::resets::resetting;
 use replies::shapes::Shape;
 use replies::shapes::held_shape;
 use replies::starts::Begun;
@@ -22,7 +28,6 @@ use replies::starts::start;
 use rewriting::writing;
 use serving::asked::Asked;
 use serving::looking::looking;
-use serving::steps::step;
 use tick::distance::Distance;
 ghost use Prim.Native.Nat.{_-_, _≤_, _^_};
 ghost use mathlib.Core.Bool.{true, false};
@@ -42,10 +47,12 @@ ghost use Rattle.held.specs.Reply.{Serves, Served, countLow};
 ghost use Rattle.climbing.specs.Rise.{strikesOf};
 ghost use Rattle.held.specs.Write.{wayOf, Waits, Latches, Stores};
 ghost use Rattle.serving.specs.Asked.{callOf, answeredTo};
+ghost use Rattle.serving.specs.Looking.{LeftFor};
+ghost use Rattle.renewing.specs.Edges.{catchesOf};
 ghost use Rattle.rewriting.specs.Writing.{Takes};
 ghost use Rattle.replies.specs.Shapes.{shape};
 ghost use Rattle.replies.specs.Starts.{Begins};
-ghost use Rattle.shell.specs.Numbers.{High, Sees, Rewritten};
+ghost use Rattle.shell.specs.Numbers.{High, Sees, ServedTo, Changes, Rewritten};
 
 // Yields the shape of `Held`, so that a caller can compare its own.
 #[no_mangle]
@@ -105,14 +112,125 @@ fn look(t: &mut Held, asked: Asked) -> Seen
     }
 }
 
-// Any call by value, and what is kept worked out anew.
-fn anew(t: &mut Held, asked: Asked, area: &mut [u8]) -> Reply
-    requires { ⌜ Kept (now t) ⌝ }
+// A call that halts the counter, lets it go on, or starts its prescaler anew.
+fn turn(t: &mut Held, asked: Asked) -> Reply
+    requires { ⌜ (Kept (now t)) × (LeftFor (now t) (callOf asked) (asked .cycle)) × (12 ≤ asked .kind) × (asked .kind ≤ 16) ⌝ }
+    ensures { λ r. ⌜ ServedTo (now (t .entry)) asked (now (t .exit)) r ⌝ }
+{
+    let a = turning(*t, asked);
+    t.timer.counter = a.counter;
+    t.timer.clock = a.clock;
+    t.timer.halts = a.halts;
+    t.next = a.next;
+    t.flags = a.flags;
+    t.shift = a.shift;
+    a.reply
+}
+
+// A capture.
+fn catch(t: &mut Held, asked: Asked, area: &mut [u8]) -> Reply
+    requires { ⌜ (Kept (now t)) × (LeftFor (now t) (callOf asked) (asked .cycle)) × (9 ≤ asked .kind) × (asked .kind ≤ 10) × (catchesOf (now t .timer) asked ≡ true) ⌝ }
     ensures { λ r. ⌜ Serves (answeredTo (now (t .entry) .timer) (callOf asked) (asked .cycle) (now (area .entry))) (now (t .exit)) r (now (area .exit)) ⌝ }
 {
-    let s = step(*t, asked, area);
-    *t = s.held;
-    s.reply
+    let a = catching(*t, asked, area);
+    t.timer.counter = a.counter;
+    t.timer.clock = a.clock;
+    t.timer.registers.icr = a.icr;
+    t.timer.flags.tifr = a.tifr;
+    a.reply
+}
+
+// A tick of the T pin.
+fn tick(t: &mut Held, asked: Asked, area: &mut [u8]) -> Reply
+    requires { ⌜ (Kept (now t)) × (LeftFor (now t) (callOf asked) (asked .cycle)) × (9 ≤ asked .kind) × (asked .kind ≤ 10) × (catchesOf (now t .timer) asked ≡ false) ⌝ }
+    ensures { λ r. ⌜ Serves (answeredTo (now (t .entry) .timer) (callOf asked) (asked .cycle) (now (area .entry))) (now (t .exit)) r (now (area .exit)) ⌝ }
+{
+    let a = ticking(*t, asked, area);
+    t.timer = a.timer;
+    t.top = a.top;
+    t.down = a.down;
+    a.reply
+}
+
+// An edge that does something.
+fn edge(t: &mut Held, asked: Asked, area: &mut [u8]) -> Reply
+    requires { ⌜ (Kept (now t)) × (LeftFor (now t) (callOf asked) (asked .cycle)) × (9 ≤ asked .kind) × (asked .kind ≤ 10) ⌝ }
+    ensures { λ r. ⌜ Serves (answeredTo (now (t .entry) .timer) (callOf asked) (asked .cycle) (now (area .entry))) (now (t .exit)) r (now (area .exit)) ⌝ }
+{
+    if catches(t.timer, asked) {
+        return catch(t, asked, area);
+    } else {
+        return tick(t, asked, area);
+    }
+}
+
+// A call that changes what is kept: one of 12 to 16 turns something, 9 and 10 are edges.
+fn change(t: &mut Held, asked: Asked, area: &mut [u8]) -> Reply
+    requires { ⌜ (Kept (now t)) × (LeftFor (now t) (callOf asked) (asked .cycle)) × Changes asked ⌝ }
+    ensures { λ r. ⌜ Serves (answeredTo (now (t .entry) .timer) (callOf asked) (asked .cycle) (now (area .entry))) (now (t .exit)) r (now (area .exit)) ⌝ }
+{
+    if 11 < asked.kind {
+        return turn(t, asked);
+    } else {
+        return edge(t, asked, area);
+    }
+}
+
+// A call that is looked at first.
+fn glance(t: &mut Held, asked: Asked, area: &mut [u8]) -> Reply
+    requires { ⌜ (Kept (now t)) × (LeftFor (now t) (callOf asked) (asked .cycle) → Changes asked) ⌝ }
+    ensures { λ r. ⌜ Serves (answeredTo (now (t .entry) .timer) (callOf asked) (asked .cycle) (now (area .entry))) (now (t .exit)) r (now (area .exit)) ⌝ }
+{
+    let a = look(t, asked);
+    if a.done {
+        return a.reply;
+    } else {
+        return change(t, asked, area);
+    }
+}
+
+// A reset at a cycle that is accepted: nothing changes where its records do not fit.
+fn reset(t: &mut Held, cycle: u64, area: &mut [u8]) -> Reply
+    requires { ⌜ (Kept (now t)) × (refusing false (now t .timer .clock .latest .0) (now t .next) cycle ≡ 0) ⌝ }
+    ensures { λ r. ⌜ Serves (answered ticks (now (t .entry) .timer) Call.Reset cycle (now (area .entry))) (now (t .exit)) r (now (area .exit)) ⌝ }
+{
+    let a = resetting(*t, cycle, area);
+    if a.fits {
+        t.timer = a.timer;
+        t.scene = a.scene;
+        t.next = NEVER;
+        t.top = a.scene.max;
+        t.flags = 0;
+        t.shift = 63;
+        t.down = false;
+        return Reply::new(0, 0, 0, a.written, NEVER, 0);
+    } else {
+        return Reply::turned(8);
+    }
+}
+
+// A reset that is accepted, or a call that is looked at.
+fn restart(t: &mut Held, asked: Asked, area: &mut [u8]) -> Reply
+    requires { ⌜ (Kept (now t)) × (asked .kind ≡ 0 → ⊥) × (asked .kind ≡ 4 → ⊥) ⌝ }
+    ensures { λ r. ⌜ Serves (answeredTo (now (t .entry) .timer) (callOf asked) (asked .cycle) (now (area .entry))) (now (t .exit)) r (now (area .exit)) ⌝ }
+{
+    if (asked.kind == 17) & (refusing(false, t.timer.clock.latest.0, t.next, asked.cycle) == 0) {
+        return reset(t, asked.cycle, area);
+    } else {
+        return glance(t, asked, area);
+    }
+}
+
+// A write, or another call but the advance.
+fn other(t: &mut Held, asked: Asked, area: &mut [u8]) -> Reply
+    requires { ⌜ (Kept (now t)) × (asked .kind ≡ 0 → ⊥) ⌝ }
+    ensures { λ r. ⌜ Serves (answeredTo (now (t .entry) .timer) (callOf asked) (asked .cycle) (now (area .entry))) (now (t .exit)) r (now (area .exit)) ⌝ }
+{
+    if asked.kind == 4 {
+        return paddlemauve_write(t, asked.cycle, area, asked.address, asked.value);
+    } else {
+        return restart(t, asked, area);
+    }
 }
 
 // Any call on a lent timer.
@@ -121,11 +239,10 @@ pub extern "C" fn paddlemauve_call(t: &mut Held, asked: Asked, area: &mut [u8]) 
     requires { ⌜ Kept (now t) ⌝ }
     ensures { λ r. ⌜ Serves (answeredTo (now (t .entry) .timer) (callOf asked) (asked .cycle) (now (area .entry))) (now (t .exit)) r (now (area .exit)) ⌝ }
 {
-    let a = look(t, asked);
-    if a.done {
-        return a.reply;
+    if asked.kind == 0 {
+        return paddlemauve_advance(t, asked.cycle, area);
     } else {
-        return anew(t, asked, area);
+        return other(t, asked, area);
     }
 }
 
@@ -160,14 +277,24 @@ fn climb(t: &mut Held, cycle: u64, area: &mut [u8]) -> Reply
     a.reply
 }
 
-// Any advance, by value.
+// An advance that is not struck from what is kept.
 fn onward(t: &mut Held, cycle: u64, area: &mut [u8]) -> Reply
     requires { ⌜ Kept (now t) ⌝ }
     ensures { λ r. ⌜ Serves (answered ticks (now (t .entry) .timer) Call.Advance cycle (now (area .entry))) (now (t .exit)) r (now (area .exit)) ⌝ }
 {
-    let s = advance(*t, cycle, area);
-    *t = s.held;
-    s.reply
+    let a = going(*t, cycle, area);
+    t.timer.counter = a.moving.counter;
+    t.timer.ocr = a.moving.ocr;
+    t.timer.oc = a.moving.oc;
+    t.timer.drives = a.moving.drives;
+    t.timer.flags.tifr = a.moving.tifr;
+    t.timer.clock = a.clock;
+    t.next = a.next;
+    t.top = a.top;
+    t.flags = a.flags;
+    t.shift = a.shift;
+    t.down = a.down;
+    a.reply
 }
 
 // An advance that works events, or is turned away: from what is kept where no match is blocked, the count rises and any tick's records fit.
@@ -235,7 +362,7 @@ fn rewrite(t: &mut Held, cycle: u64, area: &mut [u8], place: u8, value: u8) -> R
     s.reply
 }
 
-// A write that waits in no buffer; one that is refused is a call like any other.
+// A write that waits in no buffer; one that is refused is looked at, and changes nothing.
 fn upper(t: &mut Held, cycle: u64, area: &mut [u8], address: u16, value: u8, way: u8) -> Reply
     requires { ⌜ (Kept (now t)) × (way ≡ wayOf (now t) address cycle) × (16 ≤ way) ⌝ }
     ensures { λ r. ⌜ Serves (answered ticks (now (t .entry) .timer) (Call.Write address value) cycle (now (area .entry))) (now (t .exit)) r (now (area .exit)) ⌝ }
@@ -250,7 +377,7 @@ fn upper(t: &mut Held, cycle: u64, area: &mut [u8], address: u16, value: u8, way
             address,
             cycle,
         };
-        return anew(t, asked, area);
+        return glance(t, asked, area);
     }
 }
 

@@ -15,7 +15,11 @@ returns-2 : tie.Need-returns-2
 returns-2 c = rw (c .accepted .ensures, c .before .new .ensures, c .before .before .works .ensures, c .before .before .before .passed .ensures, c .before .before .before .before .before .before .before .before .tests .ensures) (done-looks (c .before .before .before .before .before .before .before .before .before .before .before .args .h) (c .before .before .before .before .before .before .before .before .before .before .before .args .c) (c .before .before .before .before .before .before .before .before .before .before .before .args .cycle) (c .before .before .before .before .before .before .before .before .before .before .before .pre) (sym (number-is (c .before .before .before .before .before .before .before .before .before .before .before .args .h) (c .before .before .before .before .before .before .before .before .before .before .before .args .c) (c .before .before .before .before .before .before .before .before .before .before .before .args .cycle) (c .before .before .before .before .before .before .before .before .tests .ensures) (c .before .before .before .before .before .before .before .refusal .ensures)) ∙ c .before .before .before .before .before .before .if1 .left) (sym (stays-is (c .before .before .before .before .before .before .before .before .before .before .before .args .h) (c .before .before .before .before .before .before .before .before .before .before .before .args .c) (c .before .before .before .before .before .before .before .before .before .before .before .args .cycle) (c .before .before .before .before .before .before .before .before .tests .ensures) (c .before .before .before .before .before .stays .ensures)) ∙ c .before .before .before .before .if2 .taken))
 
 returns-3 : tie.Need-returns-3
-returns-3 c = rw (c .nothing2 .ensures, c .before .turned2 .ensures) (left-looks (c .before .before .before .before .before .before .before .before .before .args .h) (c .before .before .before .before .before .before .before .before .before .args .c) (c .before .before .before .before .before .before .before .before .before .args .cycle) _ (c .before .before .before .before .before .before .before .before .before .pre))
+returns-3 c = rw (c .nothing2 .ensures, c .before .turned2 .ensures) (left-looks (c .before .before .before .before .before .before .before .before .before .args .h) (c .before .before .before .before .before .before .before .before .before .args .c) (c .before .before .before .before .before .before .before .before .before .args .cycle) _ (c .before .before .before .before .before .before .before .before .before .pre)
+    (record {
+      accepted = sym (number-is (c .before .before .before .before .before .before .before .before .before .args .h) (c .before .before .before .before .before .before .before .before .before .args .c) (c .before .before .before .before .before .before .before .before .before .args .cycle) (c .before .before .before .before .before .before .tests .ensures) (c .before .before .before .before .before .refusal .ensures)) ∙ c .before .before .before .before .if1 .left;
+      turns = sym (stays-is (c .before .before .before .before .before .before .before .before .before .args .h) (c .before .before .before .before .before .before .before .before .before .args .c) (c .before .before .before .before .before .before .before .before .before .args .cycle) (c .before .before .before .before .before .before .tests .ensures) (c .before .before .before .stays .ensures)) ∙ c .before .before .if2 .left;
+    }))
 
 pub calling-spec : {M : Type 1} → statement M
 calling-spec = tie.close (tie.spec (λ c κs. search needs) (λ c κs. search needs) (λ c κs. search needs) (λ c κs. search needs) returns (λ c κs. search needs) passed-requires (λ c κs. search needs) (λ c κs. search needs) (λ c κs. search needs) returns-2 (λ c κs. search needs) (λ c κs. search needs) returns-3)

@@ -170,7 +170,7 @@ after-is h was r v is =
 
 -- what is told
 sees : (h : Held) (q : Asked) (r : Looked) → LooksFor h (callOf q) (q .cycle) r → Sees h (callOf q) (q .cycle) (after h r) (seen r)
-sees h q r e = record { done = e .done; left = e .left }
+sees h q r e = record { done = e .done; same = e .same; left = e .left }
 
 module _ {M : Type 1} (𝓤 : URA M) (H : Heap 𝓤) (A : Atoms 𝓤) (at-mem : Memory → SProp 𝓤) (run : Routine → Fun 𝓤) where
   abbrev Core : Contract 𝓤

@@ -37,7 +37,7 @@ use denote.Triple.Clauses.{ensured, lasts}
 use denote.Triple.Table.{entered, cited}
 use denote.Triple.Walked.{says, needs, Stays, stay-none, gave-ref, gave-slice, walkOf, AllGo, goes-none, goes-gave-ref, goes-gave-slice, Walks, ends-at, walked, walk-meets}
 use denote.Exit.{yes}
-use borrow.Author.Tests.{ltb-true}
+use borrow.Author.Tests.{ltb-true, ltb-false}
 use Rattle.held.specs.declared.state.Held.{Held}
 use Rattle.held.specs.declared.reply.Reply.{Reply}
 use Rattle.held.specs.Held.{Kept}
@@ -46,10 +46,12 @@ use Rattle.config.specs.Config.{placeOf}
 use Rattle.held.specs.Write.{wayOf}
 use Rattle.held.proofs.Stores.{takes}
 use Rattle.rewriting.specs.Writing.{Takes}
-use Rattle.shell.specs.Numbers.{Rewritten}
+use Rattle.shell.specs.Numbers.{Changes, Rewritten}
 use Rattle.serving.specs.declared.asked.Asked.{Asked}
 use Rattle.serving.specs.Asked.{callOf, answeredTo}
-use Rattle.shell.proofs.Branches.{is-true}
+use Rattle.serving.specs.Looking.{Left}
+use Rattle.shell.proofs.Branches.{is-true, is-false}
+use Rattle.shell.proofs.Lefts.{write-left}
 use Rattle.passage.specs.Passage.{ticks}
 use Rattle.timer.specs.declared.calls.Call.the-variants as call
 use Rattle.timer.specs.Calls.{answered}
@@ -62,10 +64,10 @@ use Rattle.shell.proofs.exports.rewrite as rewriting
 use Rattle.shell.proofs.exports.rewrite.Symbol as rewriting-def
 use Rattle.shell.proofs.exports.rewrite.Symbol.{name as #rewriting}
 use Rattle.shell.proofs.exports.rewrite.Met as rewriting-thm
-use Rattle.shell.proofs.exports.anew as anew
-use Rattle.shell.proofs.exports.anew.Symbol as anew-def
-use Rattle.shell.proofs.exports.anew.Symbol.{name as #anew}
-use Rattle.shell.proofs.exports.anew.Met as anew-thm
+use Rattle.shell.proofs.exports.glance as glance
+use Rattle.shell.proofs.exports.glance.Symbol as glance-def
+use Rattle.shell.proofs.exports.glance.Symbol.{name as #glance}
+use Rattle.shell.proofs.exports.glance.Met as glance-thm
 use Rattle.shell.proofs.exports.upper.Key.{name as #lent}
 use Rattle.shell.proofs.exports.upper as lent
 use Rattle.shell.proofs.exports.upper.Statement as stated
@@ -103,8 +105,8 @@ ways h n adr y ok z =
     subst (λ (m : ℕ). (placeOf (h .timer .config) adr ≡ m - 16) × Takes h (m - 16) n) (sym (ok .1)) (t .0, record { address = adr; placed = t .0; there = t .1; low = t .2; quiet = t .3 })
 
 module _ {M : Type 1} (𝓤 : URA M) (H : Heap 𝓤) (A : Atoms 𝓤) (at-mem : Memory → SProp 𝓤) (run : Routine → Fun 𝓤) where
-  abbrev To-anew : Contract 𝓤
-  To-anew = tripleOf 𝓤 H A anew.signature (anew.spec 𝓤 H A at-mem run)
+  abbrev To-glance : Contract 𝓤
+  To-glance = tripleOf 𝓤 H A glance.signature (glance.spec 𝓤 H A at-mem run)
 
   abbrev To-rewriting : Contract 𝓤
   To-rewriting = tripleOf 𝓤 H A rewriting.signature (rewriting.spec 𝓤 H A at-mem run)
@@ -147,12 +149,12 @@ module _ {M : Type 1} (𝓤 : URA M) (H : Heap 𝓤) (A : Atoms 𝓤) (W : Given
       nothing ! $ owned ! u8 (Is u8) (uint-makes 𝓤 H A W w8) (y) _ (refl, fits-y) $ fjoin ! $ owned ! u8 (Is u8) (uint-makes 𝓤 H A W w8) (v) _ (refl, fits-v) $ fjoin ! $ owned ! u16 (Is u16) (uint-makes 𝓤 H A W w16) (adr) _ (refl, fits-adr) $ fjoin ! $ move ! (2 ∷ 0 ∷ []) $ fjoin ! $ owned ! u64 (Is u64) (uint-makes 𝓤 H A W w64) (n) _ (refl, n-is) $ fjoin ! $ move ! (1 ∷ 0 ∷ []) $ fjoin ! $
       owned ! E.the-row (Is E.the-row) (LL.makes E.the-type E′.the-plain 𝓤 H A) r _ is $ move ! (1 ∷ 0 ∷ []) $ frame ! $ done !
 
-  -- `anew` at the same lifetimes
-  abbrev to-anew : To-anew 𝓤 H A at-mem run .Ghost
-  to-anew = (((κ, (κ′, tt)), (q, (q′, tt)), tt, (ref, (asked n adr v, (area, tt))), (vptr b o ∷ [], (asked-of (asked n adr v) ∷ [], (s ∷ [], tt)))), tt)
+  -- `glance` at the same lifetimes
+  abbrev to-glance : To-glance 𝓤 H A at-mem run .Ghost
+  to-glance = (((κ, (κ′, tt)), (q, (q′, tt)), tt, (ref, (asked n adr v, (area, tt))), (vptr b o ∷ [], (asked-of (asked n adr v) ∷ [], (s ∷ [], tt)))), tt)
 
-  goes-anew : adr < 2 ^ 16 → v < 2 ^ 8 → Kept h → ent 𝓤 (⋆ 𝓤 H A ((‵ (flft κ q) ⊛ ‵ (flft κ′ q′) ⊛ ‵ ftrue) ∷ ‵ own-ref ∷ ‵ own-area ∷ [])) (To-anew 𝓤 H A at-mem run .pre to-anew)
-  goes-anew fits-adr fits-v k =
+  goes-glance : adr < 2 ^ 16 → v < 2 ^ 8 → (Kept h) × (Left h (call.Write adr v) n → Changes (asked n adr v)) → ent 𝓤 (⋆ 𝓤 H A ((‵ (flft κ q) ⊛ ‵ (flft κ′ q′) ⊛ ‵ ftrue) ∷ ‵ own-ref ∷ ‵ own-area ∷ [])) (To-glance 𝓤 H A at-mem run .pre to-glance)
+  goes-glance fits-adr fits-v k =
       qed W ((‵ (flft κ q) ⊛ ‵ (flft κ′ q′) ⊛ ‵ ftrue) ∷ ‵ own-ref ∷ ‵ own-area ∷ []) ∵ says ! k $ frame ! $
       nothing ! $ move ! (2 ∷ 0 ∷ []) $ fjoin ! $ owned ! N.the-row (Is N.the-row) (LL.makes N.the-type N′.the-plain 𝓤 H A) (asked n adr v) _ (asked-is n adr v n-is fits-adr fits-v) $ fjoin ! $ move ! (1 ∷ 0 ∷ []) $ fjoin ! $ done !
 
@@ -165,7 +167,7 @@ module _ {M : Type 1} (𝓤 : URA M) (H : Heap 𝓤) (A : Atoms 𝓤) (W : Given
       qed W ((‵ (flft κ q) ⊛ ‵ (flft κ′ q′) ⊛ ‵ ftrue) ∷ ‵ own-ref ∷ ‵ own-area ∷ []) ∵ says ! k $ frame ! $
       nothing ! $ owned ! u8 (Is u8) (uint-makes 𝓤 H A W w8) (v) _ (refl, fits-v) $ fjoin ! $ owned ! u8 (Is u8) (uint-makes 𝓤 H A W w8) (y - 16) _ (refl, below y fits-y) $ fjoin ! $ move ! (2 ∷ 0 ∷ []) $ fjoin ! $ owned ! u64 (Is u64) (uint-makes 𝓤 H A W w64) (n) _ (refl, n-is) $ fjoin ! $ move ! (1 ∷ 0 ∷ []) $ fjoin ! $ done !
 
-  module _ (C : Calls 𝓤 H) (Λ : Loops 𝓤 H) (fm : FmC 𝓤 H (W .laws) C) (known-anew : Triple 𝓤 (C #anew) (To-anew 𝓤 H A at-mem run)) (known-rewriting : Triple 𝓤 (C #rewriting) (To-rewriting 𝓤 H A at-mem run)) where
+  module _ (C : Calls 𝓤 H) (Λ : Loops 𝓤 H) (fm : FmC 𝓤 H (W .laws) C) (known-glance : Triple 𝓤 (C #glance) (To-glance 𝓤 H A at-mem run)) (known-rewriting : Triple 𝓤 (C #rewriting) (To-rewriting 𝓤 H A at-mem run)) where
     walk : Room u8 (length ys) → adr < 2 ^ 16 → v < 2 ^ 8 → y < 2 ^ 8 → Asks h n adr y → ent 𝓤 (onEntry 𝓤 H A lent.signature (κ, (κ′, tt)) (q, (q′, tt)) a vals) (WpFn 𝓤 H C Λ code.function (vptr b o ∷ vint w64 n ∷ s ∷ vint w16 adr ∷ vint w8 v ∷ vint w8 y ∷ []) Post)
     walk room fits-adr fits-v fits-y ok =
         qed W ((‵ (flft κ q) ⊛ ‵ (flft κ′ q′) ⊛ ‵ ftrue) ∷ ‵ (owns (MutRef (named 0) κ T.the-row ∷ u64 ∷ MutSlice (named 1) κ′ u8 ∷ u16 ∷ u8 ∷ u8 ∷ []) a vals) ∷ []) ∵ split ! $ move ! (2 ∷ []) $ fsplit ! $ fsplit3 ! $ drop ! $
@@ -199,10 +201,10 @@ module _ {M : Type 1} (𝓤 : URA M) (H : Heap 𝓤) (A : Atoms 𝓤) (W : Given
         assigns ! (addr ! (from ! (hop ! (look ! 30 refl) (stop !)))) (from ! (stop !)) (init ! 6 refl (tt, tt)) $
         assigns ! (addr ! (from ! (fld ! refl (hop ! (look-in ! 26 (sub ! 0 refl (whole !))) (stop !))))) (from ! (stop !)) (init ! 4 refl (tt, tt)) $
         assigns ! (agg ! (and-then ! (load ! (from ! (stop !)) (look ! 4 refl)) (and-then ! (load ! (from ! (fld ! refl (stop !))) (look-in ! 26 (sub ! 1 refl (whole !)))) (no-more !)))) (from ! (stop !)) (init ! 2 refl (tt, (tt, (record { fits = room .0 }, tt)))) $
-        move ! (1 ∷ 34 ∷ 0 ∷ 35 ∷ []) $ join ! $ use3 W (raw (To-anew 𝓤 H A at-mem run .pre to-anew)) (goes-anew fits-adr fits-v (ok .0)) $
-        calls-at ! fm (To-anew 𝓤 H A at-mem run) known-anew to-anew (and-then ! (load ! (from ! (stop !)) (look ! 5 refl)) (and-then ! (load ! (from ! (stop !)) (look ! 17 refl)) (and-then ! (load ! (from ! (stop !)) (look ! 1 refl)) (no-more !)))) (λ w.
-        use1 W (later (some (λ (r : Reply). ((‵ (flft κ q) ⊛ ‵ (flft κ′ q′) ⊛ ‵ ftrue) ⊛ ‵ (E.the-row .own r (w ∷ []))) ⊛ raw (ensured 𝓤 H A anew.ended (anew.clauses 𝓤 H A at-mem run) (κ, (κ′, tt)) (ref, (asked n adr v, (area, tt))) tt r)))) (id⊢ 𝓤 _) $ await ! tt $ pick ! (λ r.
-        split ! $ move ! (1 ∷ []) $ use1 W (some (λ (ws : Held × (Unit {0} × (List ℕ × Unit {0}))). ‵ (lasts anew.ended (κ, (κ′, tt)) (ref, (asked n adr v, (area, tt))) ws) ⊛ raw (fact 𝓤 (Serves (answeredTo (h .timer) (callOf (asked n adr v)) n ys) (ws .0) r (ws .1 .1 .0))))) (id⊢ 𝓤 _) $ pick ! (λ ws.
+        move ! (1 ∷ 34 ∷ 0 ∷ 35 ∷ []) $ join ! $ use3 W (raw (To-glance 𝓤 H A at-mem run .pre to-glance)) (goes-glance fits-adr fits-v (ok .0, λ l. absurd (write-left h adr v n (subst (λ (m : ℕ). 32 ≤ m) (ok .1) (ltb-false y 32 (is-false (ltb y 32) fails))) l))) $
+        calls-at ! fm (To-glance 𝓤 H A at-mem run) known-glance to-glance (and-then ! (load ! (from ! (stop !)) (look ! 5 refl)) (and-then ! (load ! (from ! (stop !)) (look ! 17 refl)) (and-then ! (load ! (from ! (stop !)) (look ! 1 refl)) (no-more !)))) (λ w.
+        use1 W (later (some (λ (r : Reply). ((‵ (flft κ q) ⊛ ‵ (flft κ′ q′) ⊛ ‵ ftrue) ⊛ ‵ (E.the-row .own r (w ∷ []))) ⊛ raw (ensured 𝓤 H A glance.ended (glance.clauses 𝓤 H A at-mem run) (κ, (κ′, tt)) (ref, (asked n adr v, (area, tt))) tt r)))) (id⊢ 𝓤 _) $ await ! tt $ pick ! (λ r.
+        split ! $ move ! (1 ∷ []) $ use1 W (some (λ (ws : Held × (Unit {0} × (List ℕ × Unit {0}))). ‵ (lasts glance.ended (κ, (κ′, tt)) (ref, (asked n adr v, (area, tt))) ws) ⊛ raw (fact 𝓤 (Serves (answeredTo (h .timer) (callOf (asked n adr v)) n ys) (ws .0) r (ws .1 .1 .0))))) (id⊢ 𝓤 _) $ pick ! (λ ws.
         split ! $ move ! (1 ∷ []) $ heard ! (Serves (answeredTo (h .timer) (callOf (asked n adr v)) n ys) (ws .0) r (ws .1 .1 .0)) (λ said. fsplit ! $ move ! (1 ∷ []) $ fsplit ! $ drop ! $ fsplit ! $ fsplit ! $ move ! (1 ∷ []) $ feqL ! (λ l.
         move ! (3 ∷ []) $ split ! $ move ! (1 ∷ []) $ peeks ! E.the-row (Is E.the-row) (shows 𝓤 H A E.the-row) r (w ∷ []) (λ it.
         -- [what the reply owns; the tokens; the area's last list; the rest; the timer's last value; the locals, 3 further]
@@ -212,19 +214,19 @@ module _ {M : Type 1} (𝓤 : URA M) (H : Heap 𝓤) (A : Atoms 𝓤) (W : Given
         split ! $ move ! (4 ∷ 0 ∷ 1 ∷ 2 ∷ []) $ keep ! (0 ∷ 1 ∷ 2 ∷ 3 ∷ []) $ by ! (exits fits-adr fits-v fits-y (ws .0) r w it (ws .1 .1 .0) said l))))))))))))))))))))))))
 
 module _ {M : Type 1} (𝓤 : URA M) (H : Heap 𝓤) (A : Atoms 𝓤) (W : Given 𝓤 H A) (at-mem : Memory → SProp 𝓤) (run : Routine → Fun 𝓤) where
-  lent-walks : (C : Calls 𝓤 H) (Λ : Loops 𝓤 H) → FmC 𝓤 H (W .laws) C → Triple 𝓤 (C #anew) (To-anew 𝓤 H A at-mem run) → Triple 𝓤 (C #rewriting) (To-rewriting 𝓤 H A at-mem run) → Walks 𝓤 H A lent.ended stayed (WpFn 𝓤 H C Λ code.function) (lent.clauses 𝓤 H A at-mem run)
-  lent-walks C Λ fm known-anew known-rewriting = walked 𝓤 H A lent.ended stayed (lent.clauses 𝓤 H A at-mem run) (WpFn 𝓤 H C Λ code.function)
+  lent-walks : (C : Calls 𝓤 H) (Λ : Loops 𝓤 H) → FmC 𝓤 H (W .laws) C → Triple 𝓤 (C #glance) (To-glance 𝓤 H A at-mem run) → Triple 𝓤 (C #rewriting) (To-rewriting 𝓤 H A at-mem run) → Walks 𝓤 H A lent.ended stayed (WpFn 𝓤 H C Λ code.function) (lent.clauses 𝓤 H A at-mem run)
+  lent-walks C Λ fm known-glance known-rewriting = walked 𝓤 H A lent.ended stayed (lent.clauses 𝓤 H A at-mem run) (WpFn 𝓤 H C Λ code.function)
       (λ κs. (ptr-vals, (uint-vals w64, (slice-vals, (uint-vals w16, (uint-vals w8, (uint-vals w8, tt))))))) (λ κs. (mut-tells (named 0) (κs .0) T.the-row, (uint-tells w64, (mut-slice-tells (named 1) (κs .1 .0) u8, (uint-tells w16, (uint-tells w8, (uint-tells w8, tt)))))))
       (λ κs qs bounds a _ are. needs 𝓤 (Asks (a .0 .now) (a .1 .0) (a .1 .1 .1 .0) (a .1 .1 .1 .1 .1 .0)) _ (λ ok.
-      walk 𝓤 H A W at-mem run (κs .0) (κs .1 .0) (qs .0) (qs .1 .0) (a .0 .ptr .0) (a .0 .ptr .1) (a .0 .name) (a .0 .now) (a .1 .0) (are .1 .0 .1) (a .1 .1 .0 .ptr .0) (a .1 .1 .0 .ptr .1) (a .1 .1 .0 .name) (a .1 .1 .0 .now) (a .1 .1 .1 .0) (a .1 .1 .1 .1 .0) (a .1 .1 .1 .1 .1 .0) C Λ fm known-anew known-rewriting (are .1 .1 .0 .0 .1) (are .1 .1 .1 .0 .1) (are .1 .1 .1 .1 .0 .1) (are .1 .1 .1 .1 .1 .0 .1) ok))
+      walk 𝓤 H A W at-mem run (κs .0) (κs .1 .0) (qs .0) (qs .1 .0) (a .0 .ptr .0) (a .0 .ptr .1) (a .0 .name) (a .0 .now) (a .1 .0) (are .1 .0 .1) (a .1 .1 .0 .ptr .0) (a .1 .1 .0 .ptr .1) (a .1 .1 .0 .name) (a .1 .1 .0 .now) (a .1 .1 .1 .0) (a .1 .1 .1 .1 .0) (a .1 .1 .1 .1 .1 .0) C Λ fm known-glance known-rewriting (are .1 .1 .0 .0 .1) (are .1 .1 .1 .0 .1) (are .1 .1 .1 .1 .0 .1) (are .1 .1 .1 .1 .1 .0 .1) ok))
 
   gone : AllGo 𝓤 H A W 2 (lent.signature .params) (lent.ended .kept) stayed
   gone = (goes-gave-ref 𝓤 H A W 2 0 tt (plain (λ _. T.the-row)), (goes-none 𝓤 H A W 2 (λ _. u64) yes (λ κs x f. refl), (goes-gave-slice 𝓤 H A W 2 1 tt (plain (λ _. u8)), (goes-none 𝓤 H A W 2 (λ _. u16) yes (λ κs x f. refl), (goes-none 𝓤 H A W 2 (λ _. u8) yes (λ κs x f. refl), (goes-none 𝓤 H A W 2 (λ _. u8) yes (λ κs x f. refl), tt))))))
 
-  lent-meets : (𝓣 : Tables 𝓤 H) → Triple 𝓤 (𝓣 .C #anew) (To-anew 𝓤 H A at-mem run) → Triple 𝓤 (𝓣 .C #rewriting) (To-rewriting 𝓤 H A at-mem run) → Meets 𝓤 H A lent.signature (WpFn 𝓤 H (𝓣 .C) (𝓣 .Λ) code.function) (lent.spec 𝓤 H A at-mem run)
-  lent-meets 𝓣 known-anew known-rewriting =
+  lent-meets : (𝓣 : Tables 𝓤 H) → Triple 𝓤 (𝓣 .C #glance) (To-glance 𝓤 H A at-mem run) → Triple 𝓤 (𝓣 .C #rewriting) (To-rewriting 𝓤 H A at-mem run) → Meets 𝓤 H A lent.signature (WpFn 𝓤 H (𝓣 .C) (𝓣 .Λ) code.function) (lent.spec 𝓤 H A at-mem run)
+  lent-meets 𝓣 known-glance known-rewriting =
       walk-meets 𝓤 H A lent.ended stayed W gone (lent.clauses 𝓤 H A at-mem run)
-      (WpFn 𝓤 H (𝓣 .C) (𝓣 .Λ) code.function) (WpFn-mono 𝓤 H (W .laws) 𝓣 code.function) (lent-walks (𝓣 .C) (𝓣 .Λ) (fmOf 𝓤 H (W .laws) 𝓣) known-anew known-rewriting)
+      (WpFn 𝓤 H (𝓣 .C) (𝓣 .Λ) code.function) (WpFn-mono 𝓤 H (W .laws) 𝓣 code.function) (lent-walks (𝓣 .C) (𝓣 .Λ) (fmOf 𝓤 H (W .laws) 𝓣) known-glance known-rewriting)
 
 pub upper-spec : {M : Type 1} → stated.statement M
 unfolding code.routine tablesOf
@@ -232,5 +234,5 @@ upper-spec 𝓤 H 𝓜 𝓖 𝓡 =
     entered 𝓤 H (tripleOf 𝓤 H (𝓖 .A) lent.signature (lent.spec 𝓤 H (𝓖 .A) (𝓜 .mem) (𝓡 .run)))
     (tables 𝓤 H 𝓜 𝓡 code.env .C) (tables 𝓤 H 𝓜 𝓡 code.env .Λ) #lent code.function (code.unfolded 𝓤 H 𝓜 𝓡)
     (lent-meets 𝓤 H (𝓖 .A) (givenOf 𝓤 H 𝓜 𝓖) (𝓜 .mem) (𝓡 .run) (tablesOf 𝓤 H 𝓜 (tables 𝓤 H 𝓜 𝓡 code.env))
-    (cited 𝓤 H (To-anew 𝓤 H (𝓖 .A) (𝓜 .mem) (𝓡 .run)) 𝓜 𝓡 code.env #anew anew-def.routine code.calls-shell·exports·anew (anew-thm.met 𝓤 H 𝓜 𝓖 𝓡))
+    (cited 𝓤 H (To-glance 𝓤 H (𝓖 .A) (𝓜 .mem) (𝓡 .run)) 𝓜 𝓡 code.env #glance glance-def.routine code.calls-shell·exports·glance (glance-thm.met 𝓤 H 𝓜 𝓖 𝓡))
     (cited 𝓤 H (To-rewriting 𝓤 H (𝓖 .A) (𝓜 .mem) (𝓡 .run)) 𝓜 𝓡 code.env #rewriting rewriting-def.routine code.calls-shell·exports·rewrite (rewriting-thm.met 𝓤 H 𝓜 𝓖 𝓡)))
