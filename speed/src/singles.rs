@@ -90,18 +90,21 @@ pub fn run(place: usize, steps: u64) -> Option<usize> {
     let single = SINGLES.get(place)?;
     let mut area = [0; 4096];
     let mut timer = Timer::new(&Config::M328P_TIMER1).expect("the preset is accepted");
+    let mut made = |call, cycle| {
+        let outcome = timer.call(call, cycle, &mut area);
+        match outcome.answer {
+            Answer::Refused(why) => panic!("{}, {call:?}: {why}", single.name),
+            _ => outcome.written,
+        }
+    };
     let compares = [(0x89, 0xff), (0x88, 0xff), (0x8b, 0xff), (0x8a, 0xff), (0x81, 5)];
     for (address, value) in compares.iter().chain(single.ready) {
-        timer.call(Call::Write(*address, *value), 0, &mut area);
+        made(Call::Write(*address, *value), 0);
     }
     let mut written = 0;
     for k in 1..=steps {
         for call in single.calls {
-            let outcome = timer.call(*call, single.step * k, &mut area);
-            if let Answer::Refused(why) = outcome.answer {
-                panic!("{}, {call:?}: {why}", single.name);
-            }
-            written += outcome.written;
+            written += made(*call, single.step * k);
         }
     }
     Some(written)
