@@ -16,7 +16,7 @@ calls=100
 seeds="47 114 127 151 167 179 183 244 256 278 285 388 412 444 468 586 597 852 4226"
 
 # Those of the board: `generate --board SEED CALLS`.
-boards="149 255 298"
+boards="235 31 40"
 
 # section TITLE: a heading, and an empty scheduler
 section() {

@@ -1,4 +1,4 @@
-/* The ATmega328P board from C and C++: three timers held by TSM start in step, Timer0's match is recorded in its own area, and what is refused changes nothing. */
+/* The ATmega328P board from C and C++: three timers held by TSM start in step, Timer0's match is recorded in its own area, its flags go by its id, and what is refused changes nothing. */
 #include <assert.h>
 #include <stdio.h>
 
@@ -49,6 +49,16 @@ static void one_timer(void)
     assert(board.timers[0].counter.count == 0 && board.timers[2].counter.count != 0);
 }
 
+/* Timer0's flags by its id, and by TIFR0's and TIMSK0's addresses. */
+static void flags(void)
+{
+    assert(order(PM_BOARD_TIFR, 0, 0, 0, 356).value == 7 && order(PM_BOARD_READ, 0, pm_m328p[0].tifr, 0, 356).value == 7);
+    assert(order(PM_BOARD_WRITE_TIFR, 0, 0, 2, 356).number == 0 && order(PM_BOARD_TIFR, 0, 0, 0, 356).value == 5);
+    assert(order(PM_BOARD_WRITE_TIMSK, 0, 0, 3, 356).number == 0 && order(PM_BOARD_TIMSK, 0, 0, 0, 356).value == 3);
+    assert(order(PM_BOARD_READ, 0, pm_m328p[0].timsk, 0, 356).value == 3 && order(PM_BOARD_TIMSK, 1, 0, 0, 356).value == 0);
+    assert(order(PM_BOARD_TIFR, 2, 0, 0, 356).number == PM_EVENT_DUE);
+}
+
 /* Timer2's event is due, so no timer sleeps; an address that is nobody's, and numbers that name no order. */
 static void refused(void)
 {
@@ -56,7 +66,7 @@ static void refused(void)
     int i;
     assert(order(PM_BOARD_SLEEP, 0, 0, 2, 356).number == PM_EVENT_DUE);
     assert(writes(0x83, 0, 356).number == PM_NOWHERE);
-    assert(order((enum pm_order)12, 0, 0, 0, 356).number == PM_NO_CALL && order(PM_BOARD_ADVANCE, 3, 0, 0, 356).number == PM_NO_CALL);
+    assert(order((enum pm_order)16, 0, 0, 0, 356).number == PM_NO_CALL && order(PM_BOARD_ADVANCE, 3, 0, 0, 356).number == PM_NO_CALL);
     for (i = 0; i < 3; i++) assert(!board.timers[i].halts.asleep && board.timers[i].clock.latest == was.timers[i].clock.latest);
     assert(board.gtccr == was.gtccr && board.scheduler.count == 3 && board.scheduler.next == 356);
 }
@@ -68,6 +78,7 @@ int main(void)
     board = paddlemauve_board();
     in_step();
     one_timer();
+    flags();
     refused();
     puts("the board from C");
     return 0;

@@ -167,7 +167,7 @@ struct pm_board {
 
 enum pm_order {
     PM_BOARD_ADVANCE, PM_BOARD_NEXT, PM_BOARD_RESET, PM_BOARD_EDGE, PM_BOARD_ROUTE, PM_BOARD_OUTPUT, PM_BOARD_READ, PM_BOARD_PEEK, PM_BOARD_WRITE,
-    PM_BOARD_SLEEP, PM_BOARD_WAKE, PM_BOARD_REDUCE
+    PM_BOARD_SLEEP, PM_BOARD_WAKE, PM_BOARD_REDUCE, PM_BOARD_TIFR, PM_BOARD_TIMSK, PM_BOARD_WRITE_TIFR, PM_BOARD_WRITE_TIMSK
 };
 
 /* kind: an enum pm_order; id: the timer's, 0 to 2, and 0 where the order takes an address or reaches all three; the other fields are read where the

@@ -21,7 +21,7 @@ static const struct pm_m328p_timer pm_m328p[3] = {
      0x36, 0x6f, {13, 11, 12, 0, 0, 10, 0, 0}},
     {{2, false, 0, 0xb0, 0xb1, 0xb1, 0xb2,
       {true, 0xb3, 2, 0x80, {true, 17}}, {true, 0xb4, 4, 0x40, {true, 5}}, {false, 0, 0, 0, {false, 0}}, {false, 0, 0, {false, 0}},
-      1, {false, 0}, 1, 2, 0x40, 0},
+      1, {false, 0}, 1, 2, 0x40, 0x88},
      0x37, 0x70, {9, 7, 8, 0, 0, 0, 0, 0}},
 };
 

@@ -32,6 +32,10 @@ pub enum Order {
     Wake,
     /// The sheet's PRR byte.
     Reduce(u8),
+    Tifr(Id),
+    Timsk(Id),
+    WriteTifr(Id, u8),
+    WriteTimsk(Id, u8),
 }
 
 /// The answer, and how many bytes were written from the start of each timer's area.
@@ -81,6 +85,10 @@ impl Order {
             Self::Sleep(value) => raw::Ordered { kind: 9, value, ..none },
             Self::Wake => raw::Ordered { kind: 10, ..none },
             Self::Reduce(value) => raw::Ordered { kind: 11, value, ..none },
+            Self::Tifr(id) => raw::Ordered { kind: 12, id: id as u8, ..none },
+            Self::Timsk(id) => raw::Ordered { kind: 13, id: id as u8, ..none },
+            Self::WriteTifr(id, value) => raw::Ordered { kind: 14, id: id as u8, value, ..none },
+            Self::WriteTimsk(id, value) => raw::Ordered { kind: 15, id: id as u8, value, ..none },
         }
     }
 }
@@ -157,6 +165,26 @@ impl Board {
     /// The comparator's output, told to a timer, takes a level; yields the bytes of the records.
     pub fn output(&mut self, id: Id, level: u8, cycle: u64, area: &mut [u8]) -> Result<usize, Refusal> {
         self.own(Order::Output(id, level), id, cycle, area).map(|(_, written)| written)
+    }
+
+    /// A timer's TIFR.
+    pub fn tifr(&mut self, id: Id, cycle: u64) -> Result<u8, Refusal> {
+        self.byte(Order::Tifr(id), cycle)
+    }
+
+    /// A timer's TIMSK.
+    pub fn timsk(&mut self, id: Id, cycle: u64) -> Result<u8, Refusal> {
+        self.byte(Order::Timsk(id), cycle)
+    }
+
+    /// Ones clear bits of a timer's TIFR.
+    pub fn write_tifr(&mut self, id: Id, ones: u8, cycle: u64) -> Result<(), Refusal> {
+        self.silent(Order::WriteTifr(id, ones), cycle)
+    }
+
+    /// A timer's TIMSK takes a byte.
+    pub fn write_timsk(&mut self, id: Id, mask: u8, cycle: u64) -> Result<(), Refusal> {
+        self.silent(Order::WriteTimsk(id, mask), cycle)
     }
 
     /// The byte at a data address as a program reads it: a timer's register, TIFRn, TIMSKn or GTCCR.

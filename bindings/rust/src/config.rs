@@ -133,7 +133,7 @@ impl Config {
         sleeprun: 0,
     };
 
-    /// Timer2 of the ATmega328P (28 pins).
+    /// Timer2 of the ATmega328P (28 pins); power-save and extended standby do not halt it.
     pub const M328P_TIMER2: Self = Self {
         id: 2,
         wide: false,
@@ -151,7 +151,7 @@ impl Config {
         clocks: Clocks::Timer2,
         group: 2,
         prr: 0x40,
-        sleeprun: 0,
+        sleeprun: 0x88,
     };
 
     pub(crate) fn raw(&self) -> raw::Config {

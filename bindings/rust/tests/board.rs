@@ -79,6 +79,10 @@ impl Three {
             Order::Sleep(mode) => self.all(&[Call::Sleep(mode)], cycle),
             Order::Wake => self.all(&[Call::Wake], cycle),
             Order::Reduce(prr) => self.all(&[Call::Reduce(prr as u16)], cycle),
+            Order::Tifr(id) => self.own(id as usize, Call::Tifr, cycle, areas),
+            Order::Timsk(id) => self.own(id as usize, Call::Timsk, cycle, areas),
+            Order::WriteTifr(id, ones) => self.own(id as usize, Call::WriteTifr(ones), cycle, areas),
+            Order::WriteTimsk(id, mask) => self.own(id as usize, Call::WriteTimsk(mask), cycle, areas),
         }
     }
 
@@ -140,7 +144,7 @@ fn order(rng: &mut Rng) -> Order {
     let level = rng.pick(&[0, 1, 0, 1, 0, 1, 0, 2]) as u8;
     let address = rng.pick(&ADDRESSES) as u16;
     let byte = rng.below(256) as u8;
-    match rng.below(160) {
+    match rng.below(176) {
         0..=54 => Order::Advance(id),
         55..=58 => Order::Next(id),
         59 => Order::Reset(id),
@@ -152,6 +156,10 @@ fn order(rng: &mut Rng) -> Order {
         116..=149 => Order::Write(address, byte),
         150 => Order::Sleep(byte % 9),
         151..=156 => Order::Wake,
+        157..=162 => Order::Tifr(id),
+        163..=166 => Order::Timsk(id),
+        167..=170 => Order::WriteTifr(id, byte),
+        171..=172 => Order::WriteTimsk(id, byte),
         _ => Order::Reduce(byte & rng.pick(&[0, 0, 8, 0x20, 0x40, 0x68]) as u8),
     }
 }
@@ -240,4 +248,38 @@ fn the_board_is_three_timers() {
     }
     println!("{ORDERS} orders: {figures:?}");
     assert!([2, 3, 5, 6, 7, 8, 16].iter().all(|&n| figures.refused[n] > 0), "{figures:?}");
+}
+
+/// TIFR and TIMSK by the timer's id are those at the sheet's addresses, and those of no other timer.
+#[test]
+fn flags_go_by_id_and_by_address() {
+    let mut board = Board::new();
+    for (i, id) in IDS.into_iter().enumerate() {
+        assert_eq!(board.write_timsk(id, 0x07 >> i, 0), Ok(()));
+    }
+    assert_eq!(IDS.map(|id| board.timsk(id, 0)), [Ok(7), Ok(3), Ok(1)]);
+    assert_eq!([0x6e, 0x6f, 0x70].map(|address| board.read(address, 0)), [Ok(7), Ok(3), Ok(1)]);
+
+    assert_eq!(board.write(0xb1, 1, 0, Default::default()), Ok([0; 3])); // TCCR2B: clock / 1
+    assert!(board.advance(Id::Timer2, 1, &mut [0; 110]).is_ok());
+    assert_eq!(IDS.map(|id| board.tifr(id, 1)), [Ok(0), Ok(0), Ok(6)]);
+    assert_eq!(board.write_tifr(Id::Timer2, 2, 1), Ok(()));
+    assert_eq!((board.tifr(Id::Timer2, 1), board.read(0x37, 1)), (Ok(4), Ok(4)));
+    assert_eq!(board.tifr(Id::Timer2, 0), Err(Refusal::CyclePassed));
+    assert_eq!(board.tifr(Id::Timer2, 256), Err(Refusal::EventDue));
+}
+
+/// Power-save and extended standby leave Timer2 counting and halt the other two (02, 2.6, by the sheet).
+#[test]
+fn timer2_runs_on_in_power_save() {
+    for (mode, counts) in [(1, false), (2, false), (3, true), (6, false), (7, true)] {
+        let mut board = Board::new();
+        for (compare, control) in [(0x47, 0x45), (0xb3, 0xb1)] {
+            for (address, value) in [(compare, 0xff), (compare + 1, 0xff), (control, 1)] {
+                assert_eq!(board.write(address, value, 0, Default::default()), Ok([0; 3]));
+            }
+        }
+        assert_eq!(board.sleep(mode, 10), Ok(()));
+        assert_eq!((board.peek(0x46, 30), board.peek(0xb2, 30)), (Ok(10), Ok(if counts { 30 } else { 10 })), "mode {mode}");
+    }
 }

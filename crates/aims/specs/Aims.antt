@@ -51,7 +51,7 @@ writtenAt x address value gtccr = aimAt x (aim.All (castOf gtccr value) (storedO
 
 -- ---- the orders, one a line
 
--- by id, by address, or all three: sleep, wake and the sheet's PRR byte
+-- by id, by address, or all three: sleep, wake and the sheet's PRR byte; TIFR and TIMSK by address and by id (02: "by their sheet addresses too")
 unfoldable pub aimOf : Order → ℕ → Aim
 aimOf (order.Advance i) gtccr = aim.Own i call.Advance
 aimOf (order.Next i) gtccr = aim.Own i call.Next
@@ -65,3 +65,7 @@ aimOf (order.Write address value) gtccr = writtenAt (placeAt address) address va
 aimOf (order.Sleep mode) gtccr = aim.All (cast.Sleep mode) gtccr
 aimOf order.Wake gtccr = aim.All cast.Wake gtccr
 aimOf (order.Reduce value) gtccr = aim.All (cast.Reduce value) gtccr
+aimOf (order.Tifr i) gtccr = aim.Own i call.Tifr
+aimOf (order.Timsk i) gtccr = aim.Own i call.Timsk
+aimOf (order.WriteTifr i ones) gtccr = aim.Own i (call.WriteTifr ones)
+aimOf (order.WriteTimsk i mask) gtccr = aim.Own i (call.WriteTimsk mask)

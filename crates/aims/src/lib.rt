@@ -21,6 +21,10 @@ pub enum Order {
     Sleep(u8),
     Wake,
     Reduce(u8),
+    Tifr(Id),
+    Timsk(Id),
+    WriteTifr(Id, u8),
+    WriteTimsk(Id, u8),
 }
 
 // What reaches all three timers: sleep in a mode, wake, the PRR byte, prescaler resets by GTCCR's bits, and the same after TSM takes a level.
@@ -109,5 +113,9 @@ pub fn aimed(order: Order, gtccr: u8) -> Aim
         Order::Sleep(mode) => Aim::All(Cast::Sleep(mode), gtccr),
         Order::Wake => Aim::All(Cast::Wake, gtccr),
         Order::Reduce(value) => Aim::All(Cast::Reduce(value), gtccr),
+        Order::Tifr(id) => Aim::Own(id, Call::Tifr),
+        Order::Timsk(id) => Aim::Own(id, Call::Timsk),
+        Order::WriteTifr(id, ones) => Aim::Own(id, Call::WriteTifr(ones)),
+        Order::WriteTimsk(id, mask) => Aim::Own(id, Call::WriteTimsk(mask)),
     }
 }

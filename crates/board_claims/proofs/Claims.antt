@@ -353,6 +353,10 @@ four (order.Write address value) gtccr s g e = gtccr-at address (written-gtccr (
 four (order.Sleep mode) gtccr s g e = refl
 four order.Wake gtccr s g e = refl
 four (order.Reduce value) gtccr s g e = refl
+four (order.Tifr i) gtccr s g e = cc
+four (order.Timsk i) gtccr s g e = cc
+four (order.WriteTifr i ones) gtccr s g e = cc
+four (order.WriteTimsk i mask) gtccr s g e = cc
 
 -- ---- two advances to one cycle
 

@@ -80,6 +80,10 @@ reachesAll (order.Write address value) = eqb address 0x43
 reachesAll (order.Sleep mode) = true
 reachesAll order.Wake = true
 reachesAll (order.Reduce value) = true
+reachesAll (order.Tifr i) = false
+reachesAll (order.Timsk i) = false
+reachesAll (order.WriteTifr i ones) = false
+reachesAll (order.WriteTimsk i mask) = false
 
 -- Four: nothing else does
 abbrev pub Four : Type 0

@@ -105,6 +105,10 @@ says o cycle v = record { order = o; cycle = cycle; number = 0; values = v; zero
 abbrev pub does : Order → ℕ → Beat
 does o cycle = says o cycle none
 
+-- an order done, with the records of each timer
+abbrev pub records : Order → ℕ → List ℕ → List ℕ → List ℕ → Beat
+records o cycle a b c = record { order = o; cycle = cycle; number = 0; values = none; zero = a; one = b; two = c }
+
 -- an order refused
 abbrev pub refuses : Order → ℕ → ℕ → Beat
 refuses o cycle n = record { order = o; cycle = cycle; number = n; values = refused; zero = []; one = []; two = [] }
@@ -142,9 +146,54 @@ sixteen =
     does (order.Write 0x6E 0xFF) 7 ∷ refuses (order.Read 0x00) (2 ^ 62) 16 ∷ refuses (order.Write 0x83 0) 6 16 ∷ refuses (order.Read 0x46) (2 ^ 62) 2 ∷ refuses (order.Read 0x6E) 6 3
     ∷ says (order.Read 0x6E) 7 (byte 0xFF) ∷ says (order.Read 0x6F) 0 (byte 0) ∷ []
 
+-- the three started at once, each at clock / 1
+abbrev pub started : List Beat
+started = far ++ (does (order.Write 0x45 0x01) 0 ∷ does (order.Write 0x81 0x01) 0 ∷ does (order.Write 0xB1 0x01) 0 ∷ [])
+
+-- the three counts at a cycle
+abbrev pub counts : ℕ → ℕ → ℕ → ℕ → List Beat
+counts cycle a b c = says (order.Peek 0x46) cycle (byte a) ∷ says (order.Peek 0x84) cycle (byte b) ∷ says (order.Peek 0xB2) cycle (byte c) ∷ []
+
+-- power-save (3) and extended standby (7) leave Timer2 running; ADC noise reduction (1), power-down (2) and standby (6) halt all three
+abbrev pub sleeps : List Beat
+sleeps =
+    started
+    ++ (does (order.Sleep 3) 10 ∷ counts 20 10 10 20) ++ (does order.Wake 20 ∷ does (order.Sleep 7) 20 ∷ counts 30 10 10 30) ++ (does order.Wake 30 ∷ does (order.Sleep 1) 30 ∷ counts 40 10 10 30)
+    ++ (does order.Wake 40 ∷ does (order.Sleep 2) 40 ∷ counts 50 10 10 30) ++ (does order.Wake 50 ∷ does (order.Sleep 6) 50 ∷ counts 60 10 10 30) ++ (does order.Wake 60 ∷ counts 70 20 20 40)
+
+-- PRR's bit 20 holds Timer0, 08 Timer1, 40 Timer2, and no other bit one of them
+abbrev pub reduced : List Beat
+reduced =
+    started
+    ++ (does (order.Reduce 0x20) 10 ∷ counts 20 10 20 20) ++ (does (order.Reduce 0x08) 20 ∷ counts 30 20 20 30) ++ (does (order.Reduce 0x40) 30 ∷ counts 40 30 30 30)
+    ++ (does (order.Reduce 0x97) 40 ∷ counts 50 40 40 40)
+
+-- a pin taken over by a timer at cycle 0, low (01, "The record area")
+abbrev pub driven : ℕ → List ℕ
+driven pin = 0 ∷ 0 ∷ 0 ∷ 0 ∷ 0 ∷ 0 ∷ 0 ∷ 0 ∷ pin ∷ 0x80 ∷ []
+
+-- a capture of Timer1 at a cycle: ICF, and trigger 4
+abbrev pub captured : ℕ → List ℕ
+captured cycle = 0x40 ∷ 0 ∷ 0 ∷ 0 ∷ 0 ∷ 0 ∷ 0 ∷ cycle ∷ 0x20 ∷ 0 ∷ 0x80 ∷ 0 ∷ 0 ∷ 0 ∷ 0 ∷ 0 ∷ 0 ∷ cycle ∷ 0x40 ∷ 0x10 ∷ []
+
+-- the nine pins of the DIP: OC0A 12, OC0B 11, OC1A 15, OC1B 16, OC2A 17, OC2B 5, T0 6, T1 11, ICP1 14
+abbrev pub pins : List Beat
+pins =
+    far
+    ++ (records (order.Write 0x44 0x50) 0 (driven 12 ++ driven 11) [] [] ∷ records (order.Write 0x80 0x50) 0 [] (driven 15 ++ driven 16) [] ∷ records (order.Write 0xB0 0x50) 0 [] [] (driven 17 ++ driven 5)
+    ∷ does (order.Write 0x45 0x07) 0 ∷ does (order.Write 0x81 0x47) 0 ∷ does (order.Edge id.Zero 6 1) 1 ∷ does (order.Edge id.Zero 11 1) 2 ∷ does (order.Edge id.One 11 1) 3 ∷ does (order.Edge id.One 6 1) 4
+    ∷ records (order.Edge id.One 14 1) 5 [] (captured 5) [] ∷ says (order.Peek 0x86) 5 (byte 1) ∷ counts 6 1 1 0)
+
+-- TIFR and TIMSK by a timer's id, and at the sheet's addresses
+abbrev pub flags : List Beat
+flags =
+    does (order.Write 0x81 0x40) 0 ∷ records (order.Edge id.One 14 1) 3 [] (captured 3) [] ∷ says (order.Tifr id.One) 3 (byte 0x20) ∷ says (order.Tifr id.Zero) 3 (byte 0) ∷ says (order.Read 0x36) 3 (byte 0x20)
+    ∷ does (order.WriteTifr id.One 0x20) 4 ∷ says (order.Tifr id.One) 4 (byte 0) ∷ does (order.WriteTimsk id.Two 0x07) 5 ∷ says (order.Timsk id.Two) 5 (byte 0x07) ∷ says (order.Read 0x70) 5 (byte 0x07)
+    ∷ says (order.Timsk id.One) 5 (byte 0) ∷ refuses (order.Tifr id.One) 4 3 ∷ refuses (order.WriteTimsk id.Zero 0) (2 ^ 62) 2 ∷ []
+
 -- every reading of the board
 abbrev pub beats : List (List Beat)
-beats = inStep ∷ gtccr ∷ asleep ∷ sixteen ∷ []
+beats = inStep ∷ gtccr ∷ asleep ∷ sixteen ∷ sleeps ∷ reduced ∷ pins ∷ flags ∷ []
 
 -- each on a fresh board
 unfoldable pub replayed : List (List Beat) → List (List Beat)

@@ -27,10 +27,10 @@ module _ (line : List ℕ) (at start : ℕ) (es : start ≡ skipOf line at) wher
   asked-missing h = rw (← es, eq-eqb start (length line) h)
 
   module _ (end name : ℕ) (h : start ≡ length line → ⊥) (ee : end ≡ findOf line start 32) (en : name ≡ placeOf names (between line start end)) where
-    pub asked-read : name < 14 → askedOf line at ≡ readOf line end name
+    pub asked-read : name < 18 → askedOf line at ≡ readOf line end name
     unfolding askedOf
-    asked-read k = rw (← es, ne-eqb start (length line) h, ← ee, ← en, lt-ltb name 14 k)
+    asked-read k = rw (← es, ne-eqb start (length line) h, ← ee, ← en, lt-ltb name 18 k)
 
-    pub asked-unknown : 14 ≤ name → askedOf line at ≡ nothingAsked 1
+    pub asked-unknown : 18 ≤ name → askedOf line at ≡ nothingAsked 1
     unfolding askedOf
-    asked-unknown k = rw (← es, ne-eqb start (length line) h, ← ee, ← en, le-ltb name 14 k)
+    asked-unknown k = rw (← es, ne-eqb start (length line) h, ← ee, ← en, le-ltb name 18 k)

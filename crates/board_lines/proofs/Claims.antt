@@ -28,7 +28,7 @@ use Rattle.board_lines.proofs.Lengths.{answer-short, board-short}
 
 last-most : (line : List ℕ) (c : Cursor) (name most : ℕ) → lastOf line c name most .value ≤ most
 unfolding lastOf
-last-most line c name most = cond-all (λ (x : Taken). x .value ≤ most) (ltb name 12) (next-most line c 10 most) (omega arith)
+last-most line c name most = cond-all (λ (x : Taken). x .value ≤ most) (ltb name 16) (next-most line c 10 most) (omega arith)
 
 -- at most 4,096 bytes are asked for
 record Small (q : Asked) : Type 0 where
@@ -47,7 +47,7 @@ sized line at =
     let start = skipOf line at in
     let end = findOf line start 32 in
     let name = placeOf names (between line start end) in
-    cond-all Small (eqb start (length line)) (nothing-small 4) (cond-all Small (ltb name 14) (read-small line end name) (nothing-small 1)) .small
+    cond-all Small (eqb start (length line)) (nothing-small 4) (cond-all Small (ltb name 18) (read-small line end name) (nothing-small 1)) .small
 
 -- ---- answers
 
@@ -72,9 +72,9 @@ called-brief b q h =
 order-brief : (b : Boarded) (q : Asked) (areas : Areas) → q .size ≤ 4096 → Brief (orderLine b q areas)
 unfolding codes orderLine
 order-brief b q areas h =
-    cond-all Brief (eqb (q .name) 12) (record { brief = omega arith })
+    cond-all Brief (eqb (q .name) 16) (record { brief = omega arith })
     (cond-all Brief (b .ready)
-    (cond-all Brief (eqb (q .name) 13) (record { brief = let s = board-short (b .board) in omega (arith, s) }) (record { brief = called-brief b q h .brief }))
+    (cond-all Brief (eqb (q .name) 17) (record { brief = let s = board-short (b .board) in omega (arith, s) }) (record { brief = called-brief b q h .brief }))
     (record { brief = omega arith }))
 
 pub short : Short

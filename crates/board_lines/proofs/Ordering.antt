@@ -83,15 +83,15 @@ module _ (ready : Bool) (o : Outcome) (areas : Areas) (old new : List ℕ) (from
 module _ (b : Boarded) (q : Asked) (areas : Areas) (old new : List ℕ) (from : ℕ) (l : Left) where
   -- what a board answers that there is
   abbrev worked : Lined
-  worked = cond (eqb (q .name) 13) (saying b areas (boardOf (b .board))) (behind (calledOf b q (filledTo (q .size) (q .size) (q .size))) (q .size) areas)
+  worked = cond (eqb (q .name) 17) (saying b areas (boardOf (b .board))) (behind (calledOf b q (filledTo (q .size) (q .size) (q .size))) (q .size) areas)
 
-  pub order-fresh : (board : Board) (at : ℕ) → q .name ≡ 12 → (board ≡ freshBoard) × Valid board → Puts old from new at (text "ok config")
+  pub order-fresh : (board : Board) (at : ℕ) → q .name ≡ 16 → (board ≡ freshBoard) × Valid board → Puts old from new at (text "ok config")
       → l ≡ record { boarded = record { ready = true; board = board }; at = at; written = nothing; fresh = true }
       → Leaves (orderLine b q areas) old from new (areas .zero) (areas .one) (areas .two) l
   unfolding orderLine
-  order-fresh board at h (f, v) p e = rw (eq-eqb (q .name) 12 h, e) (record { boarded = rw f; written = refl; fresh = refl; zero = refl; one = refl; two = refl; puts = p; valid = v })
+  order-fresh board at h (f, v) p e = rw (eq-eqb (q .name) 16 h, e) (record { boarded = rw f; written = refl; fresh = refl; zero = refl; one = refl; two = refl; puts = p; valid = v })
 
-  module _ (new-not : q .name ≡ 12 → ⊥) where
+  module _ (new-not : q .name ≡ 16 → ⊥) where
     -- a line that leaves the board as it was
     stays : (bytes : List ℕ) (at : ℕ) → orderLine b q areas ≡ saying b areas bytes → Valid (b .board) → Puts old from new at bytes → l ≡ record { boarded = b; at = at; written = nothing; fresh = false }
         → Leaves (orderLine b q areas) old from new (areas .zero) (areas .one) (areas .two) l
@@ -99,7 +99,7 @@ module _ (b : Boarded) (q : Asked) (areas : Areas) (old new : List ℕ) (from : 
 
     none-is : b .ready ≡ false → orderLine b q areas ≡ saying b areas (text "no timer")
     unfolding orderLine
-    none-is n = rw (ne-eqb (q .name) 12 new-not) (ap (λ (y : Bool). cond y worked (saying b areas (text "no timer"))) n)
+    none-is n = rw (ne-eqb (q .name) 16 new-not) (ap (λ (y : Bool). cond y worked (saying b areas (text "no timer"))) n)
 
     pub order-none : (at : ℕ) → b .ready ≡ false → Valid (b .board) → Puts old from new at (text "no timer") → l ≡ record { boarded = b; at = at; written = nothing; fresh = false }
         → Leaves (orderLine b q areas) old from new (areas .zero) (areas .one) (areas .two) l
@@ -108,20 +108,20 @@ module _ (b : Boarded) (q : Asked) (areas : Areas) (old new : List ℕ) (from : 
     module _ (y : b .ready ≡ true) where
       ready-is : orderLine b q areas ≡ worked
       unfolding orderLine
-      ready-is = rw (ne-eqb (q .name) 12 new-not) (ap (λ (v : Bool). cond v worked (saying b areas (text "no timer"))) y)
+      ready-is = rw (ne-eqb (q .name) 16 new-not) (ap (λ (v : Bool). cond v worked (saying b areas (text "no timer"))) y)
 
-      pub order-state : (at : ℕ) → q .name ≡ 13 → Valid (b .board) → Puts old from new at (boardOf (b .board)) → l ≡ record { boarded = b; at = at; written = nothing; fresh = false }
+      pub order-state : (at : ℕ) → q .name ≡ 17 → Valid (b .board) → Puts old from new at (boardOf (b .board)) → l ≡ record { boarded = b; at = at; written = nothing; fresh = false }
           → Leaves (orderLine b q areas) old from new (areas .zero) (areas .one) (areas .two) l
-      order-state at h = stays (boardOf (b .board)) at (ready-is ∙ rw (eq-eqb (q .name) 13 h))
+      order-state at h = stays (boardOf (b .board)) at (ready-is ∙ rw (eq-eqb (q .name) 17 h))
 
       -- an order on the first bytes of each area
       module _ (zero one two : List ℕ) (n m k j : ℕ) (en : n ≡ q .size) (em : m ≡ q .size) (ek : k ≡ q .size) (ej : j ≡ q .size) where
-        pub order-called : (after0 after1 after2 : List ℕ) → (q .name ≡ 13 → ⊥) → Leaves (calledOf b q (filledTo n m k)) old from new zero one two l
+        pub order-called : (after0 after1 after2 : List ℕ) → (q .name ≡ 17 → ⊥) → Leaves (calledOf b q (filledTo n m k)) old from new zero one two l
             → after0 ≡ zero ++ drop j (areas .zero) → after1 ≡ one ++ drop j (areas .one) → after2 ≡ two ++ drop j (areas .two)
             → Leaves (orderLine b q areas) old from new after0 after1 after2 l
         order-called after0 after1 after2 h c e0 e1 e2 =
             let d : Leaves (calledOf b q (filledTo (q .size) (q .size) (q .size))) old from new zero one two l = rw (en, em, ek) at c in
-            rw (ready-is, ne-eqb (q .name) 13 h)
+            rw (ready-is, ne-eqb (q .name) 17 h)
             (record {
               boarded = d .boarded;
               written = d .written;

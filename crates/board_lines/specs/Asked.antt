@@ -17,30 +17,28 @@ use Rattle.board_lines.specs.declared.asked.Asked.{Asked}
 
 -- the orders, then `new` and `state`
 abbrev pub names : List ℕ
-names = text "advance next reset route acout edge read peek write sleep prr wake new state"
+names = text "advance next reset tifr timsk edge route acout wtifr wtimsk write read peek sleep prr wake new state"
 
 -- how many words follow the name, cycle and size among them: none of `new` and `state`
 unfoldable pub argumentsOf : ℕ → ℕ
 argumentsOf name =
-    cond (ltb name 3) 3
-    (cond (ltb name 5) 4
+    cond (ltb name 5) 3
     (cond (eqb name 5) 5
-    (cond (ltb name 8) 3
-    (cond (eqb name 8) 4
-    (cond (ltb name 11) 3
-    (cond (eqb name 11) 2 0))))))
+    (cond (ltb name 11) 4
+    (cond (ltb name 15) 3
+    (cond (eqb name 15) 2 0))))
 
 -- the first: "T is a timer's id, 0 to 2", an address, a mode, or PRR, "the sheet's byte"
 unfoldable pub firstOf : List ℕ → Cursor → ℕ → Taken
 firstOf line c name =
-    cond (ltb name 6) (nextOf line c 10 2)
-    (cond (ltb name 9) (nextOf line c 16 65535)
-    (cond (eqb name 9) (nextOf line c 10 255)
-    (cond (eqb name 10) (nextOf line c 16 255) (nothingOf c))))
+    cond (ltb name 10) (nextOf line c 10 2)
+    (cond (ltb name 13) (nextOf line c 16 65535)
+    (cond (eqb name 13) (nextOf line c 10 255)
+    (cond (eqb name 14) (nextOf line c 16 255) (nothingOf c))))
 
--- the second: a level or an edge's pin, decimal, or a write's value, hexadecimal
+-- the second: a level or an edge's pin, decimal, or the value of a write, of TIFR and TIMSK too, hexadecimal
 unfoldable pub secondOf : List ℕ → Cursor → ℕ → Taken
-secondOf line c name = cond (ltb name 3) (nothingOf c) (cond (ltb name 6) (nextOf line c 10 255) (cond (eqb name 8) (nextOf line c 16 255) (nothingOf c)))
+secondOf line c name = cond (ltb name 5) (nothingOf c) (cond (ltb name 8) (nextOf line c 10 255) (cond (ltb name 11) (nextOf line c 16 255) (nothingOf c)))
 
 -- the third: an edge's level
 unfoldable pub thirdOf : List ℕ → Cursor → ℕ → Taken
@@ -48,7 +46,7 @@ thirdOf line c name = cond (eqb name 5) (nextOf line c 10 255) (nothingOf c)
 
 -- the last two of an order: its cycle, and the size of each area
 unfoldable pub lastOf : List ℕ → Cursor → ℕ → ℕ → Taken
-lastOf line c name most = cond (ltb name 12) (nextOf line c 10 most) (nothingOf c)
+lastOf line c name most = cond (ltb name 16) (nextOf line c 10 most) (nothingOf c)
 
 -- the id of a number
 unfoldable pub idOf : ℕ → Id
@@ -60,14 +58,18 @@ orderOf name a b c =
     cond (eqb name 0) (order.Advance (idOf a))
     (cond (eqb name 1) (order.Next (idOf a))
     (cond (eqb name 2) (order.Reset (idOf a))
-    (cond (eqb name 3) (order.Route (idOf a) (b % 256))
-    (cond (eqb name 4) (order.Output (idOf a) (b % 256))
+    (cond (eqb name 3) (order.Tifr (idOf a))
+    (cond (eqb name 4) (order.Timsk (idOf a))
     (cond (eqb name 5) (order.Edge (idOf a) (b % 256) (c % 256))
-    (cond (eqb name 6) (order.Read (a % 65536))
-    (cond (eqb name 7) (order.Peek (a % 65536))
-    (cond (eqb name 8) (order.Write (a % 65536) (b % 256))
-    (cond (eqb name 9) (order.Sleep (a % 256))
-    (cond (eqb name 10) (order.Reduce (a % 256)) order.Wake))))))))))
+    (cond (eqb name 6) (order.Route (idOf a) (b % 256))
+    (cond (eqb name 7) (order.Output (idOf a) (b % 256))
+    (cond (eqb name 8) (order.WriteTifr (idOf a) (b % 256))
+    (cond (eqb name 9) (order.WriteTimsk (idOf a) (b % 256))
+    (cond (eqb name 10) (order.Write (a % 65536) (b % 256))
+    (cond (eqb name 11) (order.Read (a % 65536))
+    (cond (eqb name 12) (order.Peek (a % 65536))
+    (cond (eqb name 13) (order.Sleep (a % 256))
+    (cond (eqb name 14) (order.Reduce (a % 256)) order.Wake))))))))))))))
 
 -- the order, its cycle and the size, of what was read
 abbrev pub endedOf : List ℕ → ℕ → Taken → Taken → Taken → Taken → Asked
@@ -85,7 +87,7 @@ readOf line at name =
 
 -- nothing, and why
 abbrev pub nothingAsked : ℕ → Asked
-nothingAsked why = record { name = 14; order = order.Wake; cycle = 0; size = 0; why = why }
+nothingAsked why = record { name = 18; order = order.Wake; cycle = 0; size = 0; why = why }
 
 -- by the order's name: "missing word" is 4, "unknown command" 1
 unfoldable pub askedOf : List ℕ → ℕ → Asked
@@ -93,4 +95,4 @@ askedOf line at =
     let start = skipOf line at in
     let end = findOf line start 32 in
     let name = placeOf names (between line start end) in
-    cond (eqb start (length line)) (nothingAsked 4) (cond (ltb name 14) (readOf line end name) (nothingAsked 1))
+    cond (eqb start (length line)) (nothingAsked 4) (cond (ltb name 18) (readOf line end name) (nothingAsked 1))

@@ -76,9 +76,9 @@ behind x size areas = record {
 -- "AREA is the size of each of three areas, one for each timer"; before `new` "the other lines answer `no timer`"
 unfoldable pub orderLine : Boarded → Asked → Areas → Lined
 orderLine b q areas =
-    cond (eqb (q .name) 12) (freshOf areas)
+    cond (eqb (q .name) 16) (freshOf areas)
     (cond (b .ready)
-    (cond (eqb (q .name) 13) (saying b areas (boardOf (b .board))) (behind (calledOf b q (filledTo (q .size) (q .size) (q .size))) (q .size) areas))
+    (cond (eqb (q .name) 17) (saying b areas (boardOf (b .board))) (behind (calledOf b q (filledTo (q .size) (q .size) (q .size))) (q .size) areas))
     (saying b areas (text "no timer")))
 
 -- what the code leaves is what the line's definition says, every byte of the three areas too; its board is valid

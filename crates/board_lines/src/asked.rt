@@ -20,11 +20,11 @@ ghost use mathlib.Core.Path.{_≡_};
 ghost use Rattle.board_lines.specs.Asked.{argumentsOf, firstOf, secondOf, thirdOf, lastOf, idOf, orderOf, readOf, nothingAsked, askedOf};
 
 // The place of `new` among the names, of `state`, and of none of them.
-pub const NEW: usize = 12;
+pub const NEW: usize = 16;
 
-pub const STATE: usize = 13;
+pub const STATE: usize = 17;
 
-const NONE: usize = 14;
+const NONE: usize = 18;
 
 // The order by its name's place, with its cycle, the size of each area, and why the line cannot be read.
 pub struct Asked {
@@ -40,13 +40,11 @@ fn arguments(name: usize) -> usize
     ensures { λ r. ⌜ r ≡ argumentsOf name ⌝ }
 {
     match name {
-        0..=2 => 3,
-        3..=4 => 4,
+        0..=4 => 3,
         5 => 5,
-        6..=7 => 3,
-        8 => 4,
-        9..=10 => 3,
-        11 => 2,
+        6..=10 => 4,
+        11..=14 => 3,
+        15 => 2,
         _ => 0,
     }
 }
@@ -56,10 +54,10 @@ fn first(line: &[u8], c: Cursor, name: usize) -> Taken
     ensures { λ r. ⌜ r ≡ firstOf (now (line .entry)) c name ⌝ }
 {
     match name {
-        0..=5 => decimal(line, c, 2),
-        6..=8 => hexadecimal(line, c, 0xffff),
-        9 => decimal(line, c, 0xff),
-        10 => hexadecimal(line, c, 0xff),
+        0..=9 => decimal(line, c, 2),
+        10..=12 => hexadecimal(line, c, 0xffff),
+        13 => decimal(line, c, 0xff),
+        14 => hexadecimal(line, c, 0xff),
         _ => none(c),
     }
 }
@@ -69,9 +67,9 @@ fn second(line: &[u8], c: Cursor, name: usize) -> Taken
     ensures { λ r. ⌜ r ≡ secondOf (now (line .entry)) c name ⌝ }
 {
     match name {
-        0..=2 => none(c),
-        3..=5 => decimal(line, c, 0xff),
-        8 => hexadecimal(line, c, 0xff),
+        0..=4 => none(c),
+        5..=7 => decimal(line, c, 0xff),
+        8..=10 => hexadecimal(line, c, 0xff),
         _ => none(c),
     }
 }
@@ -91,7 +89,7 @@ fn last(line: &[u8], c: Cursor, name: usize, most: u64) -> Taken
     ensures { λ r. ⌜ (r .value ≤ most) × (r ≡ lastOf (now (line .entry)) c name most) ⌝ }
 {
     match name {
-        0..=11 => decimal(line, c, most),
+        0..=15 => decimal(line, c, most),
         _ => none(c),
     }
 }
@@ -115,14 +113,18 @@ fn order_of(name: usize, a: u64, b: u64, c: u64) -> Order
         0 => Order::Advance(id_of(a)),
         1 => Order::Next(id_of(a)),
         2 => Order::Reset(id_of(a)),
-        3 => Order::Route(id_of(a), low8(b)),
-        4 => Order::Output(id_of(a), low8(b)),
+        3 => Order::Tifr(id_of(a)),
+        4 => Order::Timsk(id_of(a)),
         5 => Order::Edge(id_of(a), low8(b), low8(c)),
-        6 => Order::Read(low16(a)),
-        7 => Order::Peek(low16(a)),
-        8 => Order::Write(low16(a), low8(b)),
-        9 => Order::Sleep(low8(a)),
-        10 => Order::Reduce(low8(a)),
+        6 => Order::Route(id_of(a), low8(b)),
+        7 => Order::Output(id_of(a), low8(b)),
+        8 => Order::WriteTifr(id_of(a), low8(b)),
+        9 => Order::WriteTimsk(id_of(a), low8(b)),
+        10 => Order::Write(low16(a), low8(b)),
+        11 => Order::Read(low16(a)),
+        12 => Order::Peek(low16(a)),
+        13 => Order::Sleep(low8(a)),
+        14 => Order::Reduce(low8(a)),
         _ => Order::Wake,
     }
 }
@@ -171,7 +173,7 @@ impl Asked {
         }
         let end = find(line, start, b' ');
         let name = place(
-            b"advance next reset route acout edge read peek write sleep prr wake new state",
+            b"advance next reset tifr timsk edge route acout wtifr wtimsk write read peek sleep prr wake new state",
             &line[start..end],
         );
         if name < NONE {

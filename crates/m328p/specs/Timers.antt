@@ -60,7 +60,7 @@ timer1 = record {
   sleeprun = 0;
 }
 
--- Timer2: OC2A 17, OC2B 5; without ASSR its clock is the CPU's, so it counts in no sleep but idle
+-- Timer2: OC2A 17, OC2B 5; it runs on in sleep modes 3 and 7 (the sheet's chapter 10, Power-save Mode and Extended Standby Mode)
 abbrev pub timer2 : Config
 timer2 = record {
   id = 2;
@@ -79,7 +79,7 @@ timer2 = record {
   clocks = 1;
   group = 2;
   prr = 0x40;
-  sleeprun = 0;
+  sleeprun = 0x88;
 }
 
 -- the configuration of a timer's id

@@ -139,7 +139,7 @@ pub fn timer1() -> Config
     }
 }
 
-// Yields Timer2's configuration, clocked by the CPU's clock: every sleep but idle halts it.
+// Yields Timer2's configuration; it runs on in power-save and extended standby.
 pub fn timer2() -> Config
     ensures { λ r. ⌜ r ≡ timer2 ⌝ }
 {
@@ -160,7 +160,7 @@ pub fn timer2() -> Config
         clocks: TIMER2,
         group: 2,
         prr: 0x40,
-        sleeprun: 0,
+        sleeprun: 0x88,
     }
 }
 

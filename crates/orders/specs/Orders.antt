@@ -31,7 +31,7 @@ use Rattle.held.specs.Reply.{whatOf, valueOf, beside}
 abbrev pub orders : Id → Ordered → List Order
 orders i q =
     order.Advance i ∷ order.Next i ∷ order.Reset i ∷ order.Edge i (q .pin) (q .value) ∷ order.Route i (q .value) ∷ order.Output i (q .value) ∷ order.Read (q .address) ∷ order.Peek (q .address)
-    ∷ order.Write (q .address) (q .value) ∷ order.Sleep (q .value) ∷ order.Wake ∷ order.Reduce (q .value) ∷ []
+    ∷ order.Write (q .address) (q .value) ∷ order.Sleep (q .value) ∷ order.Wake ∷ order.Reduce (q .value) ∷ order.Tifr i ∷ order.Timsk i ∷ order.WriteTifr i (q .value) ∷ order.WriteTimsk i (q .value) ∷ []
 
 -- the order at a place of a list
 abbrev pub meantAt : List Order → ℕ → Meant

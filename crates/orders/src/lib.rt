@@ -82,7 +82,11 @@ impl Ordered {
             9 => Meant::Known(Order::Sleep(self.value)),
             10 => Meant::Known(Order::Wake),
             11 => Meant::Known(Order::Reduce(self.value)),
-            12..=255 => Meant::Unknown,
+            12 => Meant::Known(Order::Tifr(id)),
+            13 => Meant::Known(Order::Timsk(id)),
+            14 => Meant::Known(Order::WriteTifr(id, self.value)),
+            15 => Meant::Known(Order::WriteTimsk(id, self.value)),
+            16..=255 => Meant::Unknown,
         }
     }
 

@@ -237,14 +237,19 @@ impl Generator {
         self.own(timer, &format!("{name} {address:x}"), reach);
     }
 
+    /// TIFR and TIMSK, by their addresses or by the timer's id.
     fn flags(&mut self, timer: usize) {
         let (tifr, timsk) = (0x35 + timer, 0x6e + timer);
         let value = self.rng.byte() & self.rng.pick(&[0xff, 0x27]);
-        let words = match self.rng.below(6) {
+        let words = match self.rng.below(12) {
             0 => format!("read {tifr:x}"),
             1 => format!("peek {timsk:x}"),
             2..=3 => format!("write {tifr:x} {value:x}"),
-            _ => format!("write {timsk:x} {value:x}"),
+            4..=5 => format!("write {timsk:x} {value:x}"),
+            6 => format!("tifr {timer}"),
+            7 => format!("timsk {timer}"),
+            8..=9 => format!("wtifr {timer} {value:x}"),
+            _ => format!("wtimsk {timer} {value:x}"),
         };
         self.own(timer, &words, Reach::Before);
     }

@@ -161,7 +161,8 @@ BOARDS {
     HighestNumber "highest-number" "the highest number is told",
     RefusedReachesOthers "refused-reaches-others" "a refusal changes the timers that accept",
     Timer2Unreached "timer2-unreached" "sleep, wake, power reduction and GTCCR writes pass Timer2 by",
-    Timer2RunsAsleep "timer2-runs-asleep" "Timer2 counts in power-save and extended standby",
+    Timer2SleepsToo "timer2-sleeps-too" "power-save and extended standby halt Timer2",
+    FlagsOfTimer0 "flags-of-timer0" "the flag calls by id reach Timer0",
     PrrIsOneBit "prr-is-one-bit" "a PRR write holds all three",
     EventOutlivesStop "event-outlives-stop" "the scheduler keeps the event of a timer that stops",
 }

@@ -42,8 +42,8 @@ impl Board {
     pub fn new(bend: Option<Bend>) -> Self {
         let timer = |name: &str| {
             let mut config = Config::read_preset(&[name]).expect("a preset");
-            if name == "m328p.timer2" && bend == Some(Bend::Timer2RunsAsleep) {
-                config.sleeprun = 0x88;
+            if name == "m328p.timer2" && bend == Some(Bend::Timer2SleepsToo) {
+                config.sleeprun = 0;
             }
             let mut plain = Plain::new(bend);
             plain.configure(&config);
@@ -77,6 +77,10 @@ impl Board {
             Order::Edge { timer, pin, level } => Aim::One(timer, Call::Edge { pin, level }),
             Order::Route(timer, level) => Aim::One(timer, Call::Route(level)),
             Order::AcOut(timer, level) => Aim::One(timer, Call::AcOut(level)),
+            Order::Tifr(timer) => self.flags(timer, Call::Tifr),
+            Order::Timsk(timer) => self.flags(timer, Call::Timsk),
+            Order::WriteTifr(timer, value) => self.flags(timer, Call::WriteTifr(value)),
+            Order::WriteTimsk(timer, value) => self.flags(timer, Call::WriteTimsk(value)),
             Order::Read(GTCCR) | Order::Peek(GTCCR) => Aim::Gtccr,
             Order::Write(GTCCR, value) => self.gtccr_written(value),
             Order::Read(at) => self.at(at, Call::Tifr, Call::Timsk, Call::Read(at)),
@@ -89,6 +93,11 @@ impl Board {
             Order::Prr(_) if self.bent(Bend::PrrIsOneBit) => Aim::All(vec![Call::Prr(0x68)], self.gtccr),
             Order::Prr(value) => Aim::All(vec![Call::Prr(value as u16)], self.gtccr),
         }
+    }
+
+    /// A flag call by the timer's id.
+    fn flags(&self, timer: usize, call: Call) -> Aim {
+        Aim::One(if self.bent(Bend::FlagsOfTimer0) { 0 } else { timer }, call)
     }
 
     /// The call on the timer whose TIFR, TIMSK or register stands at an address.

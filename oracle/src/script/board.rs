@@ -20,6 +20,10 @@ pub enum Order {
     Sleep(u8),
     Wake,
     Prr(u8),
+    Tifr(usize),
+    Timsk(usize),
+    WriteTifr(usize, u8),
+    WriteTimsk(usize, u8),
 }
 
 #[derive(Clone, Copy, Debug, PartialEq, Eq)]
@@ -30,7 +34,7 @@ pub enum BoardLine {
 }
 
 /// The names of the orders, with how many words each has between its name and its cycle.
-pub const ORDERS: [(&str, usize); 12] = [
+pub const ORDERS: [(&str, usize); 16] = [
     ("advance", 1),
     ("next", 1),
     ("reset", 1),
@@ -43,6 +47,10 @@ pub const ORDERS: [(&str, usize); 12] = [
     ("sleep", 1),
     ("wake", 0),
     ("prr", 1),
+    ("tifr", 1),
+    ("timsk", 1),
+    ("wtifr", 2),
+    ("wtimsk", 2),
 ];
 
 impl BoardLine {
@@ -77,6 +85,10 @@ fn read_order(name: &str, a: &[&str]) -> Read<Order> {
         "sleep" => Order::Sleep(words::decimal8(a[0])?),
         "wake" => Order::Wake,
         "prr" => Order::Prr(words::hex8(a[0])?),
+        "tifr" => Order::Tifr(words::timer(a[0])?),
+        "timsk" => Order::Timsk(words::timer(a[0])?),
+        "wtifr" => Order::WriteTifr(words::timer(a[0])?, words::hex8(a[1])?),
+        "wtimsk" => Order::WriteTimsk(words::timer(a[0])?, words::hex8(a[1])?),
         _ => return Err(Why::UnknownCommand),
     })
 }

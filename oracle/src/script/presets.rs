@@ -5,7 +5,7 @@
 const PRESETS: [(&str, &str); 10] = [
     ("m328p.timer0", "id=0 wide=0 layout=split tccra=44 tccrb=45 foc=45 foca=80 focb=40 tcnt=46 ocra=47 ocrb=48 icr=- tov=1 ocfa=2 ocfb=4 icf=0 pina=12 pinb=11 c=- icp=- t=6 clock=sync group=1 prr=20 sleeprun=0"),
     ("m328p.timer1", "id=1 wide=1 layout=split tccra=80 tccrb=81 foc=82 foca=80 focb=40 tcnt=84 ocra=88 ocrb=8A icr=86 tov=1 ocfa=2 ocfb=4 icf=20 pina=15 pinb=16 c=- icp=14 t=11 clock=sync group=1 prr=8 sleeprun=0"),
-    ("m328p.timer2", "id=2 wide=0 layout=split tccra=B0 tccrb=B1 foc=B1 foca=80 focb=40 tcnt=B2 ocra=B3 ocrb=B4 icr=- tov=1 ocfa=2 ocfb=4 icf=0 pina=17 pinb=5 c=- icp=- t=- clock=t2 group=2 prr=40 sleeprun=0"),
+    ("m328p.timer2", "id=2 wide=0 layout=split tccra=B0 tccrb=B1 foc=B1 foca=80 focb=40 tcnt=B2 ocra=B3 ocrb=B4 icr=- tov=1 ocfa=2 ocfb=4 icf=0 pina=17 pinb=5 c=- icp=- t=- clock=t2 group=2 prr=40 sleeprun=88"),
     ("m2560.timer1", "id=1 wide=1 layout=split tccra=80 tccrb=81 foc=82 foca=80 focb=40 tcnt=84 ocra=88 ocrb=8A icr=86 tov=1 ocfa=2 ocfb=4 icf=20 pina=24 pinb=25 c=8C:8:26:20 icp=47 t=49 clock=sync group=1 prr=8 sleeprun=0"),
     ("m2560.timer3", "id=3 wide=1 layout=split tccra=90 tccrb=91 foc=92 foca=80 focb=40 tcnt=94 ocra=98 ocrb=9A icr=96 tov=1 ocfa=2 ocfb=4 icf=20 pina=5 pinb=6 c=9C:8:7:20 icp=9 t=8 clock=sync group=1 prr=800 sleeprun=0"),
     ("m2560.timer4", "id=4 wide=1 layout=split tccra=A0 tccrb=A1 foc=A2 foca=80 focb=40 tcnt=A4 ocra=A8 ocrb=AA icr=A6 tov=1 ocfa=2 ocfb=4 icf=20 pina=15 pinb=16 c=AC:8:17:20 icp=35 t=27 clock=sync group=1 prr=1000 sleeprun=0"),

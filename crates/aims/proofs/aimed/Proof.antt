@@ -51,6 +51,22 @@ returns-12 : tie.Need-returns-12
 unfolding aimOf
 returns-12 c = rw (c .before .order11 .given .1)
 
+returns-13 : tie.Need-returns-13
+unfolding aimOf
+returns-13 c = rw (c .before .order12 .given .1)
+
+returns-14 : tie.Need-returns-14
+unfolding aimOf
+returns-14 c = rw (c .before .order13 .given .1)
+
+returns-15 : tie.Need-returns-15
+unfolding aimOf
+returns-15 c = rw (c .before .order14 .given .1)
+
+returns-16 : tie.Need-returns-16
+unfolding aimOf
+returns-16 c = rw (c .before .order15 .given .1)
+
 pub aimed-spec : {M : Type 1} → statement M
 aimed-spec =
     tie.close
@@ -73,6 +89,10 @@ aimed-spec =
     (λ c. search needs)
     (λ c. search needs)
     (λ c. search needs)
+    (λ c. search needs)
+    (λ c. search needs)
+    (λ c. search needs)
+    (λ c. search needs)
     returns
     returns-2
     returns-3
@@ -84,4 +104,8 @@ aimed-spec =
     returns-9
     returns-10
     returns-11
-    returns-12)
+    returns-12
+    returns-13
+    returns-14
+    returns-15
+    returns-16)

@@ -14,37 +14,25 @@ returns-2 c = rw (c .match .keys2)
 
 returns-3 : tie.Need-returns-3
 unfolding argumentsOf
-returns-3 c = rw (c .match .keys3)
+returns-3 c = rw (lt-ltb (c .before .before .args .name) 5 (omega arith))
 
 returns-4 : tie.Need-returns-4
 unfolding argumentsOf
-returns-4 c = rw (lt-ltb (c .before .before .args .name) 3 (omega arith))
+returns-4 c =
+    let n = c .before .before .before .args .name in
+    rw (le-ltb n 5 (omega arith), ne-eqb n 5 (c .before .before .match .rest .0 .1), lt-ltb n 11 (omega arith))
 
 returns-5 : tie.Need-returns-5
 unfolding argumentsOf
 returns-5 c =
-    let n = c .before .before .before .args .name in
-    rw (le-ltb n 3 (omega arith), lt-ltb n 5 (omega arith))
+    let n = c .before .before .before .before .args .name in
+    rw (le-ltb n 5 (omega arith), ne-eqb n 5 (c .before .before .before .match .rest .0 .1), le-ltb n 11 (omega arith), lt-ltb n 15 (omega arith))
 
 returns-6 : tie.Need-returns-6
 unfolding argumentsOf
 returns-6 c =
     let n = c .before .before .before .before .args .name in
-    rw (le-ltb n 3 (omega arith), le-ltb n 5 (omega arith), ne-eqb n 5 (c .before .before .before .match .rest .0 .0 .1), lt-ltb n 8 (omega arith))
-
-returns-7 : tie.Need-returns-7
-unfolding argumentsOf
-returns-7 c =
-    let n = c .before .before .before .before .before .args .name in
-    rw (le-ltb n 3 (omega arith), le-ltb n 5 (omega arith), ne-eqb n 5 (c .before .before .before .before .match .rest .0 .0 .1), le-ltb n 8 (omega arith), ne-eqb n 8 (c .before .before .before .before .match .rest .0 .1), lt-ltb n 11 (omega arith))
-
-returns-8 : tie.Need-returns-8
-unfolding argumentsOf
-returns-8 c =
-    let n = c .before .before .before .before .before .args .name in
-    rw (le-ltb n 3 (omega arith), le-ltb n 5 (omega arith), ne-eqb n 5 (c .before .before .before .before .match .rest .0 .0 .1), le-ltb n 8 (omega arith), ne-eqb n 8 (c .before .before .before .before .match .rest .0 .1), le-ltb n 11 (omega arith), ne-eqb n 11 (c .before .before .before .before .match .rest .1))
+    rw (le-ltb n 5 (omega arith), ne-eqb n 5 (c .before .before .before .match .rest .0 .1), le-ltb n 11 (omega arith), le-ltb n 15 (omega arith), ne-eqb n 15 (c .before .before .before .match .rest .1))
 
 pub arguments-spec : {M : Type 1} → statement M
-arguments-spec =
-    tie.close
-    (tie.spec returns returns-2 returns-3 returns-4 returns-5 returns-6 returns-7 returns-8)
+arguments-spec = tie.close (tie.spec returns returns-2 returns-3 returns-4 returns-5 returns-6)

@@ -15,19 +15,19 @@ returns-2 c = rw (c .before .match .keys2) (c .hexadecimal .ensures .1)
 
 returns-3 : tie.Need-returns-3
 unfolding firstOf
-returns-3 c = rw (lt-ltb (c .before .before .before .before .args .name) 6 (omega arith)) (c .decimal2 .ensures .1)
+returns-3 c = rw (lt-ltb (c .before .before .before .before .args .name) 10 (omega arith)) (c .decimal2 .ensures .1)
 
 returns-4 : tie.Need-returns-4
 unfolding firstOf
 returns-4 c =
     let n = c .before .before .before .before .before .args .name in
-    rw (le-ltb n 6 (omega arith), lt-ltb n 9 (omega arith)) (c .hexadecimal2 .ensures .1)
+    rw (le-ltb n 10 (omega arith), lt-ltb n 13 (omega arith)) (c .hexadecimal2 .ensures .1)
 
 returns-5 : tie.Need-returns-5
 unfolding firstOf
 returns-5 c =
     let n = c .before .before .before .before .before .args .name in
-    rw (le-ltb n 6 (omega arith), le-ltb n 9 (omega arith), ne-eqb n 9 (c .before .before .before .match .rest .0 .1), ne-eqb n 10 (c .before .before .before .match .rest .1)) (c .none .ensures .1)
+    rw (le-ltb n 10 (omega arith), le-ltb n 13 (omega arith), ne-eqb n 13 (c .before .before .before .match .rest .0 .1), ne-eqb n 14 (c .before .before .before .match .rest .1)) (c .none .ensures .1)
 
 pub first-spec : {M : Type 1} → statement M
 first-spec =
