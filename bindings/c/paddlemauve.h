@@ -171,7 +171,7 @@ enum pm_order {
 };
 
 /* kind: an enum pm_order; id: the timer's, 0 to 2, and 0 where the order takes an address or reaches all three; the other fields are read where the
- * order has such an argument. */
+ * order has such an argument. TIFR and TIMSK go by the timer's id, and by their data addresses too. */
 struct pm_ordered { uint8_t kind, id, pin, value; uint16_t address; uint64_t cycle; };
 
 /* Of a timer of the board, as in struct pm_reply: the bytes written in its area, and its next event. */

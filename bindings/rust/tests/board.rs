@@ -280,6 +280,7 @@ fn timer2_runs_on_in_power_save() {
             }
         }
         assert_eq!(board.sleep(mode, 10), Ok(()));
-        assert_eq!((board.peek(0x46, 30), board.peek(0xb2, 30)), (Ok(10), Ok(if counts { 30 } else { 10 })), "mode {mode}");
+        let timer2 = if counts { 30 } else { 10 };
+        assert_eq!((board.peek(0x46, 30), board.peek(0xb2, 30)), (Ok(10), Ok(timer2)), "mode {mode}");
     }
 }

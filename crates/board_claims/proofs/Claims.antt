@@ -25,8 +25,8 @@ use Rattle.timer.specs.Calls.{answered}
 use Rattle.timer.proofs.Alike.{told-alike}
 use Rattle.timer.proofs.Keeps.{call-keeps}
 use Rattle.scheduler.specs.declared.Scheduler.{Scheduler}
-use Rattle.scheduler.specs.Scheduler.{holding, held}
-use Rattle.scheduler.specs.Runs.{run, Sound}
+use Rattle.scheduler.specs.Scheduler.{held}
+use Rattle.scheduler.specs.Runs.{run}
 use Rattle.scheduler.proofs.Runs.{always}
 use Rattle.m328p.specs.declared.Id.{Id}
 use Rattle.m328p.specs.declared.Id.the-variants as id
@@ -37,7 +37,6 @@ use Rattle.m328p.specs.Places.{isOf, registerAt, placeAt}
 use Rattle.m328p.proofs.Claims.{all-accepted}
 use Rattle.plans.specs.Plans.{keyOf, plannedOf, eventOf, Kept as In, Exact, Apart}
 use Rattle.plans.proofs.Exact.{one-id, planned, exact-same}
-use Rattle.aims.specs.declared.Order.{Order}
 use Rattle.aims.specs.declared.Order.the-variants as order
 use Rattle.aims.specs.declared.Cast.{Cast}
 use Rattle.aims.specs.declared.Cast.the-variants as cast
@@ -46,10 +45,10 @@ use Rattle.aims.specs.declared.Aim.the-variants as aim
 use Rattle.aims.specs.Aims.{storedOf, lookedAt, writtenAt, aimOf}
 use Rattle.board.specs.declared.state.Board.{Board}
 use Rattle.board.specs.declared.outcome.Outcome.{Outcome}
-use Rattle.board.specs.State.{Valid, timerOf, boardTo, boardAll, freshBoard}
+use Rattle.board.specs.State.{timerOf, boardTo, boardAll, freshBoard}
 use Rattle.casts.specs.Casts.{prescaled, reached, lowest}
 use Rattle.board.specs.Calls.{Areas, areaOf, areasTo, Told, ownTold, allTold, aimed, told, Tells}
-use Rattle.board_claims.specs.Claims.{Request, tells, outcomes, last, Alike, nextsOf, Scheduled, reachesAll, Four, Alone, Untouched, advances, Agrees, Commuting, GtccrReads, heard, History, nothing, called, Heard, CodeIsRun}
+use Rattle.board_claims.specs.Claims.{Request, tells, outcomes, last, Alike, nextsOf, Schedules, Scheduled, reachesAll, Four, Alone, Untouched, advances, Agrees, Commuting, GtccrReads, heard, History, nothing, called, CodeIsRun}
 
 -- ---- each timer's calls keep it valid, and skipping and ticking are alike
 
@@ -121,81 +120,95 @@ areas-others a id.Two area id.Zero e = refl
 areas-others a id.Two area id.One e = refl
 areas-others a id.Two area id.Two e = absurd (true≢false e)
 
--- ---- what an order keeps of the board: its timers are valid, and the scheduler holds exactly their next events
+-- ---- every order leaves the three timers valid
 
-record Kept (b : Board) : Type 0 where
-  running : (i : Id) → Running (timerOf b i)
-  sound : Sound (b .scheduler)
-  exact : Exact (nextsOf b) (held (b .scheduler))
+abbrev pub Runs : Board → Type 0
+Runs b = (i : Id) → Running (timerOf b i)
 
-kept-valid : {b : Board} → Kept b → Valid b
-kept-valid k = record { zero = k .running id.Zero; one = k .running id.One; two = k .running id.Two; scheduler = k .sound .valid }
+to-runs : (b : Board) (i : Id) (t : Timer) → Runs b → Running t → Runs (boardTo b i t)
+to-runs b i t k r j = go (eqb (keyOf j .owner) (keyOf i .owner)) refl
+  where
+    go : (d : Bool) → eqb (keyOf j .owner) (keyOf i .owner) ≡ d → Running (timerOf (boardTo b i t) j)
+    go true h = rw (one-id j i h, to-self b i t) r
+    go false h = rw (to-others b i t j h) (k j)
 
--- the scheduler as it is told
+all-run : (b : Board) (x y z : Timer) (gtccr : ℕ) → Running x → Running y → Running z → Runs (boardAll b x y z gtccr)
+unfolding boardAll
+all-run b x y z gtccr rx ry rz id.Zero = rx
+all-run b x y z gtccr rx ry rz id.One = ry
+all-run b x y z gtccr rx ry rz id.Two = rz
+
+aimed-runs : (b : Board) (a : Aim) (cycle : ℕ) (areas : Areas) → Runs b → Runs (aimed ticks b a cycle areas .board)
+unfolding aimed ownTold allTold
+aimed-runs b aim.Nowhere cycle areas k = k
+aimed-runs b aim.Shown cycle areas k = k
+aimed-runs b (aim.Own i c) cycle areas k =
+    let x = answered ticks (timerOf b i) c cycle (areaOf areas i) in
+    cond-all Runs (eqb (x .number) 0) (to-runs b i (x .timer) k (call-keeps (timerOf b i) (record { call = c; cycle = cycle; area = areaOf areas i }) (k i))) k
+aimed-runs b (aim.All s gtccr) cycle areas k =
+    let x = reached ticks (b .zero) s cycle (areas .zero) in
+    let y = reached ticks (b .one) s cycle (areas .one) in
+    let z = reached ticks (b .two) s cycle (areas .two) in
+    cond-all (λ (r : Told). Runs (r .board)) (eqb (lowest (x .number) (lowest (y .number) (z .number))) 0)
+    (all-run b (x .timer) (y .timer) (z .timer) gtccr (reached-keeps (b .zero) s cycle (areas .zero) (k id.Zero)) (reached-keeps (b .one) s cycle (areas .one) (k id.One)) (reached-keeps (b .two) s cycle (areas .two) (k id.Two)))
+    k
+
+pub told-runs : (b : Board) (q : Request) → Runs b → Runs (tells ticks b q .board)
+unfolding told
+told-runs b q k = aimed-runs b (aimOf (q .order) (b .gtccr)) (q .cycle) (q .areas) k
+
+pub fresh-runs : Runs freshBoard
+fresh-runs id.Zero = fresh-is-valid timer0 (all-accepted id.Zero)
+fresh-runs id.One = fresh-is-valid timer1 (all-accepted id.One)
+fresh-runs id.Two = fresh-is-valid timer2 (all-accepted id.Two)
+
+-- ---- and the scheduler with exactly their next events
+
+-- of a scheduler that is the same
 exact-in : {n : Id → Next} {s t : Scheduler} → s ≡ t → Exact n (held t) → Exact n (held s)
 exact-in e x = rw e x
 
--- one timer and its event
-one-planned : (b c : Board) (i : Id) → Kept b → ((j : Id) → Apart j i → timerOf c j ≡ timerOf b j) → c .scheduler ≡ plannedOf (b .scheduler) i (nextsOf c i) → Running (timerOf c i) → Kept c
-one-planned b c i k others e r =
-    let p = planned (b .scheduler) (nextsOf b) (nextsOf c) i (k .sound) (k .exact) (λ j a. ap nextOf (others j a)) in
-    record { running = λ j. go j (eqb (keyOf j .owner) (keyOf i .owner)) refl; sound = rw e (p .0); exact = exact-in e (p .1) }
-  where
-    go : (j : Id) (d : Bool) → eqb (keyOf j .owner) (keyOf i .owner) ≡ d → Running (timerOf c j)
-    go j true h = rw (one-id j i h) r
-    go j false h = rw (others j h) (k .running j)
+to-plans : (b : Board) (i : Id) (t : Timer) → Schedules b → Schedules (boardTo b i t)
+to-plans b i t (s, e) =
+    let h : boardTo b i t .scheduler ≡ plannedOf (b .scheduler) i (nextsOf (boardTo b i t) i) = rw (to-self b i t) (to-plan b i t) in
+    let p = planned (b .scheduler) (nextsOf b) (nextsOf (boardTo b i t)) i s e (λ j a. ap nextOf (to-others b i t j a)) in
+    (rw h (p .0), exact-in h (p .1))
 
-to-keeps : (b : Board) (i : Id) (t : Timer) → Kept b → Running t → Kept (boardTo b i t)
-to-keeps b i t k r = one-planned b (boardTo b i t) i k (to-others b i t) (to-plan b i t ∙ rw (to-self b i t)) (rw (to-self b i t) r)
+own-plans : (b : Board) (i : Id) (areas : Areas) (x : Timer·Told) → Schedules b → Schedules (ownTold b i areas x .board)
+unfolding ownTold
+own-plans b i areas x k = cond-all Schedules (eqb (x .number) 0) (to-plans b i (x .timer) k) k
 
--- all three
-all-keep : (b : Board) (x y z : Timer) (gtccr : ℕ) → Kept b → Running x → Running y → Running z → Kept (boardAll b x y z gtccr)
+all-plan : (b : Board) (x y z : Timer) (gtccr : ℕ) → Schedules b → Schedules (boardAll b x y z gtccr)
 unfolding boardAll boardTo
-all-keep b x y z gtccr k rx ry rz =
-    let first = to-keeps b id.Zero x k rx in
-    let second = to-keeps (boardTo b id.Zero x) id.One y first ry in
-    let third = to-keeps (boardTo (boardTo b id.Zero x) id.One y) id.Two z second rz in
-    record { running = running; sound = third .sound; exact = exact-same (nextsOf (boardTo (boardTo (boardTo b id.Zero x) id.One y) id.Two z)) (nextsOf (boardAll b x y z gtccr)) _ same (third .exact) }
+all-plan b x y z gtccr k =
+    let (s, e) = to-plans (boardTo (boardTo b id.Zero x) id.One y) id.Two z (to-plans (boardTo b id.Zero x) id.One y (to-plans b id.Zero x k)) in
+    (s, exact-same (nextsOf (boardTo (boardTo (boardTo b id.Zero x) id.One y) id.Two z)) (nextsOf (boardAll b x y z gtccr)) _ same e)
   where
-    running : (i : Id) → Running (timerOf (boardAll b x y z gtccr) i)
-    running id.Zero = rx
-    running id.One = ry
-    running id.Two = rz
-
     same : (i : Id) → nextsOf (boardAll b x y z gtccr) i ≡ nextsOf (boardTo (boardTo (boardTo b id.Zero x) id.One y) id.Two z) i
     same id.Zero = refl
     same id.One = refl
     same id.Two = refl
 
-aimed-keeps : (b : Board) (a : Aim) (cycle : ℕ) (areas : Areas) → Kept b → Kept (aimed ticks b a cycle areas .board)
-unfolding aimed ownTold allTold
-aimed-keeps b aim.Nowhere cycle areas k = k
-aimed-keeps b aim.Shown cycle areas k = k
-aimed-keeps b (aim.Own i c) cycle areas k =
-    let x = answered ticks (timerOf b i) c cycle (areaOf areas i) in
-    cond-all Kept (eqb (x .number) 0) (to-keeps b i (x .timer) k (call-keeps (timerOf b i) (record { call = c; cycle = cycle; area = areaOf areas i }) (k .running i))) k
-aimed-keeps b (aim.All s gtccr) cycle areas k =
-    let v = kept-valid k in
-    let x = reached ticks (b .zero) s cycle (areas .zero) in
-    let y = reached ticks (b .one) s cycle (areas .one) in
-    let z = reached ticks (b .two) s cycle (areas .two) in
-    cond-all (λ (r : Told). Kept (r .board)) (eqb (lowest (x .number) (lowest (y .number) (z .number))) 0)
-    (all-keep b (x .timer) (y .timer) (z .timer) gtccr k (reached-keeps (b .zero) s cycle (areas .zero) (v .zero)) (reached-keeps (b .one) s cycle (areas .one) (v .one)) (reached-keeps (b .two) s cycle (areas .two) (v .two)))
-    k
+all-plans : (b : Board) (gtccr : ℕ) (areas : Areas) (x y z : Timer·Told) → Schedules b → Schedules (allTold b gtccr areas x y z .board)
+unfolding allTold
+all-plans b gtccr areas x y z k = cond-all (λ (r : Told). Schedules (r .board)) (eqb (lowest (x .number) (lowest (y .number) (z .number))) 0) (all-plan b (x .timer) (y .timer) (z .timer) gtccr k) k
 
-told-keeps : (b : Board) (q : Request) → Kept b → Kept (tells ticks b q .board)
+aimed-plans : (b : Board) (a : Aim) (cycle : ℕ) (areas : Areas) → Schedules b → Schedules (aimed ticks b a cycle areas .board)
+unfolding aimed
+aimed-plans b aim.Nowhere cycle areas k = k
+aimed-plans b aim.Shown cycle areas k = k
+aimed-plans b (aim.Own i c) cycle areas k = own-plans b i areas (answered ticks (timerOf b i) c cycle (areaOf areas i)) k
+aimed-plans b (aim.All s gtccr) cycle areas k =
+    all-plans b gtccr areas (reached ticks (b .zero) s cycle (areas .zero)) (reached ticks (b .one) s cycle (areas .one)) (reached ticks (b .two) s cycle (areas .two)) k
+
+told-plans : (b : Board) (q : Request) → Schedules b → Schedules (tells ticks b q .board)
 unfolding told
-told-keeps b q k = aimed-keeps b (aimOf (q .order) (b .gtccr)) (q .cycle) (q .areas) k
+told-plans b q k = aimed-plans b (aimOf (q .order) (b .gtccr)) (q .cycle) (q .areas) k
 
-fresh-kept : Kept freshBoard
+fresh-planned : Schedules freshBoard
 unfolding run nextOf freshOf runningOf divisorOf divisorAt heldOf
-fresh-kept = record { running = running; sound = always []; exact = record { sound = λ p w. absurd (not-suc-le-zero w); whole = whole; size = refl } }
+fresh-planned = (always [], record { sound = λ p w. absurd (not-suc-le-zero w); whole = whole; size = refl })
   where
-    running : (i : Id) → Running (timerOf freshBoard i)
-    running id.Zero = fresh-is-valid timer0 (all-accepted id.Zero)
-    running id.One = fresh-is-valid timer1 (all-accepted id.One)
-    running id.Two = fresh-is-valid timer2 (all-accepted id.Two)
-
     no-event : (c : Cycle) (f : ℕ) → next.Never ≡ next.At c f → ⊥
     no-event c f e = let z : _≡_ {A = ℕ} 0 1 = cc in omega arith
 
@@ -204,40 +217,40 @@ fresh-kept = record { running = running; sound = always []; exact = record { sou
     whole id.One c f e = absurd (no-event c f e)
     whole id.Two c f e = absurd (no-event c f e)
 
-last-kept : (b : Board) (qs : List Request) → Kept b → Kept (last ticks b qs)
+last-planned : (b : Board) (qs : List Request) → Schedules b → Schedules (last ticks b qs)
 unfolding last
-last-kept b [] k = k
-last-kept b (q ∷ qs) k = last-kept (tells ticks b q .board) qs (told-keeps b q k)
+last-planned b [] k = k
+last-planned b (q ∷ qs) k = last-planned (tells ticks b q .board) qs (told-plans b q k)
 
 pub scheduled : Scheduled
-scheduled qs = let k = last-kept freshBoard qs fresh-kept in (k .sound, k .exact)
+scheduled qs = last-planned freshBoard qs fresh-planned
 
 -- ---- alike
 
-aimed-alike : (b : Board) (a : Aim) (cycle : ℕ) (areas : Areas) → Kept b → aimed events b a cycle areas ≡ aimed ticks b a cycle areas
+aimed-alike : (b : Board) (a : Aim) (cycle : ℕ) (areas : Areas) → Runs b → aimed events b a cycle areas ≡ aimed ticks b a cycle areas
 unfolding aimed
 aimed-alike b aim.Nowhere cycle areas k = refl
 aimed-alike b aim.Shown cycle areas k = refl
-aimed-alike b (aim.Own i c) cycle areas k = ap (ownTold b i areas) (told-alike (timerOf b i) (record { call = c; cycle = cycle; area = areaOf areas i }) (k .running i))
+aimed-alike b (aim.Own i c) cycle areas k = ap (ownTold b i areas) (told-alike (timerOf b i) (record { call = c; cycle = cycle; area = areaOf areas i }) (k i))
 aimed-alike b (aim.All s gtccr) cycle areas k =
-    rw (reached-alike (b .zero) s cycle (areas .zero) (k .running id.Zero), reached-alike (b .one) s cycle (areas .one) (k .running id.One), reached-alike (b .two) s cycle (areas .two) (k .running id.Two))
+    rw (reached-alike (b .zero) s cycle (areas .zero) (k id.Zero), reached-alike (b .one) s cycle (areas .one) (k id.One), reached-alike (b .two) s cycle (areas .two) (k id.Two))
 
-tells-alike : (b : Board) (q : Request) → Kept b → tells events b q ≡ tells ticks b q
+tells-alike : (b : Board) (q : Request) → Runs b → tells events b q ≡ tells ticks b q
 unfolding told
 tells-alike b q k = aimed-alike b (aimOf (q .order) (b .gtccr)) (q .cycle) (q .areas) k
 
-outcomes-alike : (b : Board) (qs : List Request) → Kept b → outcomes events b qs ≡ outcomes ticks b qs
+outcomes-alike : (b : Board) (qs : List Request) → Runs b → outcomes events b qs ≡ outcomes ticks b qs
 unfolding outcomes
 outcomes-alike b [] k = refl
-outcomes-alike b (q ∷ qs) k = rw (tells-alike b q k, outcomes-alike (tells ticks b q .board) qs (told-keeps b q k))
+outcomes-alike b (q ∷ qs) k = rw (tells-alike b q k, outcomes-alike (tells ticks b q .board) qs (told-runs b q k))
 
-last-alike : (b : Board) (qs : List Request) → Kept b → last events b qs ≡ last ticks b qs
+last-alike : (b : Board) (qs : List Request) → Runs b → last events b qs ≡ last ticks b qs
 unfolding last
 last-alike b [] k = refl
-last-alike b (q ∷ qs) k = rw (tells-alike b q k) (last-alike (tells ticks b q .board) qs (told-keeps b q k))
+last-alike b (q ∷ qs) k = rw (tells-alike b q k) (last-alike (tells ticks b q .board) qs (told-runs b q k))
 
 pub alike : Alike
-alike qs = record { outcomes = outcomes-alike freshBoard qs fresh-kept; last = last-alike freshBoard qs fresh-kept }
+alike qs = record { outcomes = outcomes-alike freshBoard qs fresh-runs; last = last-alike freshBoard qs fresh-runs }
 
 -- ---- the code is that run
 
@@ -360,7 +373,7 @@ four (order.WriteTimsk i mask) gtccr s g e = cc
 
 -- ---- two advances to one cycle
 
-timer-after : (c : Bool) (b : Board) (i : Id) (t : Timer) (k : Id) → timerOf (cond c (boardTo b i t) b) k ≡ cond (c && eqb (keyOf k .owner) (keyOf i .owner)) t (timerOf b k)
+pub timer-after : (c : Bool) (b : Board) (i : Id) (t : Timer) (k : Id) → timerOf (cond c (boardTo b i t) b) k ≡ cond (c && eqb (keyOf k .owner) (keyOf i .owner)) t (timerOf b k)
 unfolding boardTo
 timer-after false b i t k = refl
 timer-after true b id.Zero t id.Zero = refl
@@ -437,13 +450,21 @@ module _ (p : Passage) (b : Board) (cycle : ℕ) (areas : Areas) where
       eqb-false (keyOf j .owner) (keyOf i .owner) a
       (sym (eqb-true (keyOf k .owner) (keyOf j .owner) (and-right (eqb (moved j .number) 0) _ e)) ∙ eqb-true (keyOf k .owner) (keyOf i .owner) (and-right (eqb (moved i .number) 0) _ h))
 
+  plans-are : (i j : Id) → Apart j i → Schedules b → Schedules (advances p b i j cycle areas .board)
+  plans-are i j a k = rw (advances-are i j a) (own-plans _ j _ (moved j) (own-plans b i areas (moved i) k))
+
+  same-timers : (i j : Id) → Apart j i → Apart i j → (k : Id) → timerOf (advances p b i j cycle areas .board) k ≡ timerOf (advances p b j i cycle areas .board) k
+  same-timers i j a c k = timer-is i j k a ∙ cond-swap _ _ _ _ _ (not-both i j k a) ∙ sym (timer-is j i k c)
+
 pub commuting : Commuting
 commuting p b i j cycle areas a c =
     let h = agrees p b cycle areas i j a in
     record {
       first = agrees p b cycle areas j i c;
       second = record { number = sym (h .number); values = sym (h .values); written = sym (h .written) };
-      timers = λ k. timer-is p b cycle areas i j k a ∙ cond-swap _ _ _ _ _ (not-both p b cycle areas i j k a) ∙ sym (timer-is p b cycle areas j i k c);
+      timers = same-timers p b cycle areas i j a c;
       bytes = areas-are p b cycle areas i j a ∙ areas-swap areas i j _ _ a ∙ sym (areas-are p b cycle areas j i c);
+      nexts = λ k. ap nextOf (same-timers p b cycle areas i j a c k);
       gtccr = gtccr-is p b cycle areas i j a ∙ sym (gtccr-is p b cycle areas j i c);
+      scheduler = λ k. (plans-are p b cycle areas i j a k, plans-are p b cycle areas j i c k);
     }

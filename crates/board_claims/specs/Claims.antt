@@ -1,26 +1,32 @@
 -- What is claimed of the board (02, 2.6): statements, proved in proofs/.
 use Prim.Native.Nat.{ℕ}
-use mathlib.Core.Bool.{Bool, true, false}
-use mathlib.Core.List.{List, [], _∷_}
+use mathlib.Core.Bool.{Bool, true, false, cond}
+use mathlib.Core.List.{List, [], _∷_, _++_}
 use mathlib.Core.Path.{_≡_}
 use lib.Dec.{eqb}
 use Rattle.counter.specs.declared.next.Next.{Next}
+use Rattle.counter.specs.declared.state.Timer.{Timer}
 use Rattle.counter.specs.Next.{nextOf}
 use Rattle.passage.specs.Passage.{Passage, ticks, events}
 use Rattle.answers.specs.Answers.{byte, numberOf, valuesOf}
 use Rattle.timer.specs.declared.calls.Call.{Call}
+use Rattle.timer.specs.declared.calls.Call.the-variants as call
+use Rattle.timer.specs.Claims.{Request as Timer·Request, last as Timer·last, Always, HeldOf, QuietOf}
+use Rattle.outlook.specs.Announced.{AnnouncedOf}
 use Rattle.scheduler.specs.Scheduler.{held}
 use Rattle.scheduler.specs.Runs.{Sound}
 use Rattle.m328p.specs.declared.Id.{Id}
-use Rattle.plans.specs.Plans.{Exact, Apart}
+use Rattle.plans.specs.Plans.{keyOf, Exact, Apart}
 use Rattle.aims.specs.declared.Order.{Order}
 use Rattle.aims.specs.declared.Order.the-variants as order
 use Rattle.aims.specs.declared.Cast.{Cast}
+use Rattle.aims.specs.declared.Cast.the-variants as cast
+use Rattle.aims.specs.declared.Aim.{Aim}
 use Rattle.aims.specs.declared.Aim.the-variants as aim
 use Rattle.aims.specs.Aims.{storedOf, aimOf}
 use Rattle.board.specs.declared.state.Board.{Board}
 use Rattle.board.specs.declared.outcome.Outcome.{Outcome}
-use Rattle.board.specs.State.{timerOf, freshBoard}
+use Rattle.board.specs.State.{Valid, timerOf, freshBoard}
 use Rattle.board.specs.Calls.{Areas, areaOf, nothing as noByte, Told, told, Tells}
 
 -- an order with its cycle and its three areas
@@ -60,9 +66,62 @@ Alike = (qs : List Request) → Same qs
 abbrev pub nextsOf : Board → Id → Next
 nextsOf b i = nextOf (timerOf b i)
 
--- Scheduled: after any list of orders the scheduler holds exactly the next events that the three timers have, under a key each
+-- the scheduler holds exactly the next events that the three timers have, under a key each
+abbrev pub Schedules : Board → Type 0
+Schedules b = (Sound (b .scheduler)) × Exact (nextsOf b) (held (b .scheduler))
+
+-- Scheduled: after any list of orders it does
 abbrev pub Scheduled : Type 0
-Scheduled = (qs : List Request) → let b = last ticks freshBoard qs in (Sound (b .scheduler)) × Exact (nextsOf b) (held (b .scheduler))
+Scheduled = (qs : List Request) → Schedules (last ticks freshBoard qs)
+
+-- ---- each timer of the board is one that its own calls make: the rest of the skipping rule (01, demand 3; 02, 2.2) carries over
+
+-- a timer's own calls of what reaches all three
+abbrev pub callsOf : Cast → List Call
+callsOf (cast.Sleep mode) = call.Sleep mode ∷ []
+callsOf cast.Wake = call.Wake ∷ []
+callsOf (cast.Reduce value) = call.Reduce value ∷ []
+callsOf (cast.Prescale mask) = call.Prescale mask ∷ []
+callsOf (cast.Synchronise level mask) = call.Tsm level ∷ call.Prescale mask ∷ []
+
+-- those of an aim, for the timer of an id
+unfoldable pub callsTo : Aim → Id → List Call
+callsTo aim.Nowhere i = []
+callsTo aim.Shown i = []
+callsTo (aim.Own j c) i = cond (eqb (keyOf i .owner) (keyOf j .owner)) (c ∷ []) []
+callsTo (aim.All s gtccr) i = callsOf s
+
+-- calls at one cycle, with one area
+unfoldable pub asking : ℕ → List ℕ → List Call → List Timer·Request
+asking cycle area [] = []
+asking cycle area (c ∷ cs) = record { call = c; cycle = cycle; area = area } ∷ asking cycle area cs
+
+-- a timer's own calls of an order, at its cycle and with the timer's area; none where it is refused
+abbrev pub ownOf : Board → Request → Id → List Timer·Request
+ownOf b q i = cond (eqb (tells ticks b q .number) 0) (asking (q .cycle) (areaOf (q .areas) i) (callsTo (aimOf (q .order) (b .gtccr)) i)) []
+
+-- of a list of orders
+unfoldable pub own : Board → List Request → Id → List Timer·Request
+own b [] i = []
+own b (q ∷ qs) i = ownOf b q i ++ own (tells ticks b q .board) qs i
+
+-- OwnCalls: orders leave each timer as its own calls leave it
+abbrev pub OwnCalls : Type 0
+OwnCalls = (b : Board) (qs : List Request) (i : Id) → Valid b → timerOf (last ticks b qs) i ≡ Timer·last ticks (timerOf b i) (own b qs i)
+
+-- of each timer of the board, after any list of orders
+abbrev pub OnBoard : (Timer → Type 0) → Type 0
+OnBoard P = (qs : List Request) (i : Id) → P (timerOf (last ticks freshBoard qs) i)
+
+-- Carries: what holds of every timer that calls make holds of each timer of the board
+abbrev pub Carries : Type 1
+Carries = (P : Timer → Type 0) → Always P → OnBoard P
+
+-- SkippingRule: so do the claims of the skipping rule beside `Alike`
+pub record SkippingRule : Type 0 where
+  pub held : OnBoard HeldOf
+  pub quiet : OnBoard QuietOf
+  pub announced : OnBoard AnnouncedOf
 
 -- ---- which timers an order reaches
 
@@ -111,15 +170,17 @@ pub record Agrees (x y : Told) : Type 0 where
   pub values : x .values ≡ y .values
   pub written : x .written ≡ y .written
 
--- each advance answers as it does in the other order, and in the end the three timers, the areas and GTCCR are the same
+-- each advance answers as it does in the other order; in the end the three states, the areas, the next events and GTCCR are the same, and the scheduler holds exactly those events, in whatever order of ties
 pub record Commutes (p : Passage) (b : Board) (i j : Id) (cycle : ℕ) (areas : Areas) : Type 0 where
   pub first : Agrees (told p b (order.Advance i) cycle areas) (advances p b j i cycle areas)
   pub second : Agrees (advances p b i j cycle areas) (told p b (order.Advance j) cycle areas)
   pub timers : (k : Id) → timerOf (advances p b i j cycle areas .board) k ≡ timerOf (advances p b j i cycle areas .board) k
   pub bytes : advances p b i j cycle areas .areas ≡ advances p b j i cycle areas .areas
+  pub nexts : (k : Id) → nextsOf (advances p b i j cycle areas .board) k ≡ nextsOf (advances p b j i cycle areas .board) k
   pub gtccr : advances p b i j cycle areas .board .gtccr ≡ advances p b j i cycle areas .board .gtccr
+  pub scheduler : Schedules b → (Schedules (advances p b i j cycle areas .board)) × Schedules (advances p b j i cycle areas .board)
 
--- Commuting: in either order; next events are those of the timers, so they are the same too, and by Scheduled the scheduler holds the same ones, in whatever order of ties
+-- Commuting: in either order
 abbrev pub Commuting : Type 0
 Commuting = (p : Passage) (b : Board) (i j : Id) (cycle : ℕ) (areas : Areas) → Apart j i → Apart i j → Commutes p b i j cycle areas
 

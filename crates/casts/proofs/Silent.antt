@@ -46,7 +46,7 @@ unfolding before
 before-silent t true cycle e = e
 before-silent t false cycle e = refl
 
-answered-silent : (t : Timer) (c : Call) (cycle : ℕ) (area : List ℕ) → Valid t → asks t c .advances ≡ false → asks t c .tested ≡ true
+pub answered-silent : (t : Timer) (c : Call) (cycle : ℕ) (area : List ℕ) → Valid t → asks t c .advances ≡ false → asks t c .tested ≡ true
     → ((x : Timer) → works x c cycle .log ≡ []) → Silent area (answered ticks t c cycle area)
 unfolding answered performed worked recordsOf
 answered-silent t c cycle area v a y l =

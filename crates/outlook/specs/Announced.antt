@@ -8,8 +8,6 @@ use lib.Dec.{eqb}
 use lib.ListN.{take}
 use Rattle.records.specs.declared.Entry.{Entry}
 use Rattle.records.specs.Records.{recordsOf}
-use Rattle.config.specs.declared.Config.{Config}
-use Rattle.config.specs.Config.{accepted}
 use Rattle.time.specs.declared.units.Cycle.{Cycle}
 use Rattle.wave.specs.Distance.{gap}
 use Rattle.tick.specs.Skip.{linear}
@@ -17,7 +15,6 @@ use Rattle.tick.specs.Tick.{tick}
 use Rattle.passage.specs.Passage.{ticks}
 use Rattle.counter.specs.declared.next.Next.the-variants.{At}
 use Rattle.counter.specs.declared.state.Timer.{Timer}
-use Rattle.counter.specs.Fresh.{freshOf}
 use Rattle.counter.specs.Halts.{halting}
 use Rattle.counter.specs.Modes.{modeOf, waveOf}
 use Rattle.counter.specs.Next.{nextOf}
@@ -26,7 +23,7 @@ use Rattle.answers.specs.Answers.{event, Told}
 use Rattle.timer.specs.declared.calls.Call.{Call}
 use Rattle.timer.specs.declared.calls.Call.the-variants as call
 use Rattle.timer.specs.Calls.{reduces, changes, prescales}
-use Rattle.timer.specs.Claims.{Request, told, last}
+use Rattle.timer.specs.Claims.{Request, told, Always}
 
 -- ---- what calls leave alone
 
@@ -82,8 +79,12 @@ pub record Stands (t : Timer) (at : Cycle) (flags : ℕ) : Type 0 where
   pub next : nextOf t ≡ At at flags
   pub raises : (cycle : ℕ) (area : List ℕ) → let x = told ticks t (record { call = call.Advance; cycle = cycle; area = area }) in at .0 ≤ x .timer .clock .sync .0 → Raises t (at .0) flags x
 
--- Announced: after any list, what next answers stays so through any calls that are turned away or are no register write, halt, prescaler reset or reset, until
+-- Announced: of a timer, what next answers stays so through any calls that are turned away or are no register write, halt, prescaler reset or reset, until
 -- the event's tick is worked; and that tick raises exactly the flags that were announced
-abbrev pub Announced : Type 0
-Announced = (c : Config) → accepted c ≡ true → (qs : List Request) (cycle : ℕ) (area : List ℕ) (at : Cycle) (flags : ℕ) (rs : List Request) (u : Timer) → let t = last ticks (freshOf c) qs in
+abbrev pub AnnouncedOf : Timer → Type 0
+AnnouncedOf t = (cycle : ℕ) (area : List ℕ) (at : Cycle) (flags : ℕ) (rs : List Request) (u : Timer) →
     told ticks t (record { call = call.Next; cycle = cycle; area = area }) .values ≡ event (At at flags) → Waits (at .0) t rs u → Stands u at flags
+
+-- after any list
+abbrev pub Announced : Type 0
+Announced = Always AnnouncedOf

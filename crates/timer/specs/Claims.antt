@@ -58,6 +58,10 @@ pub record Same (t : Timer) (qs : List Request) : Type 0 where
 abbrev pub Alike : Type 0
 Alike = (c : Config) → accepted c ≡ true → (qs : List Request) → Same (freshOf c) qs
 
+-- of every timer that a list of calls makes of a fresh one
+abbrev pub Always : (Timer → Type 0) → Type 0
+Always P = (c : Config) → accepted c ≡ true → (qs : List Request) → P (last ticks (freshOf c) qs)
+
 -- Held: after any list, a counter held by sleep, power reduction or TSM, or whose clock is stopped, has its count moved only by a TCNT write or a reset
 unfoldable pub setsCount : Timer → Call → Bool
 setsCount t (call.Write address value) = eqb (placed t address) 0
@@ -79,21 +83,29 @@ setsCount t (call.Reduce mask) = false
 setsCount t (call.Tsm level) = false
 setsCount t (call.Prescale mask) = false
 
--- by no other call, whatever its arguments
-abbrev pub Held : Type 0
-Held = (c : Config) → accepted c ≡ true → (qs : List Request) (q : Request) → let t = last ticks (freshOf c) qs in
+-- of a timer, by no other call, whatever its arguments
+abbrev pub HeldOf : Timer → Type 0
+HeldOf t = (q : Request) →
     (t .halts .asleep || t .halts .reduced || t .halts .tsm) || eqb (clockAt (t .config .clocks) (t .registers .tccrb % 8)) stop ≡ true → setsCount t (q .call) ≡ false → told ticks t q .timer .counter .count ≡ t .counter .count
+
+-- after any list
+abbrev pub Held : Type 0
+Held = Always HeldOf
 
 -- the cycle of the n-th prescaled tick after the sync cycle
 abbrev pub tickCycle : Timer → ℕ → ℕ
 tickCycle t n = cycleAt (prescalerOf t) (ticksAt (prescalerOf t) (t .clock .sync .0) + n)
 
--- Quiet: after any list, a prescaled tick whose cycle lies before the cycle that next answers only steps the count, adds one to the odometer and lifts a blocked match
-abbrev pub Quiet : Type 0
-Quiet = (c : Config) → accepted c ≡ true → (qs : List Request) (cycle : ℕ) (area : List ℕ) (at : Cycle) (flags n : ℕ) → let t = last ticks (freshOf c) qs in
+-- Quiet: of a timer, a prescaled tick whose cycle lies before the cycle that next answers only steps the count, adds one to the odometer and lifts a blocked match
+abbrev pub QuietOf : Timer → Type 0
+QuietOf t = (cycle : ℕ) (area : List ℕ) (at : Cycle) (flags n : ℕ) →
     let w = waveOf t (modeOf t) in
     told ticks t (record { call = call.Next; cycle = cycle; area = area }) .values ≡ event (At at flags) → tickCycle t (suc n) < at .0
     → tick (settingOf t) (linear w n (movingOf t)) ≡ record { moving = linear w (suc n) (movingOf t); log = [] }
+
+-- after any list
+abbrev pub Quiet : Type 0
+Quiet = Always QuietOf
 
 -- Progress: an area of 110 bytes always gets one event tick done
 abbrev pub Progress : Type 0
