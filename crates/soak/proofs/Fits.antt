@@ -3,31 +3,28 @@ use Prim.Native.Nat.{ℕ, _≤_}
 use native.Mathlib.Omega.{arith}
 use mathlib.Core.Path.{_≡_, ap, _∙_}
 use mathlib.Core.Bool.{Bool, true, false, cond}
-use mathlib.Core.List.{List, _++_}
+use mathlib.Core.List.{List}
 use lib.ListN.{length, drop, length-append, length-drop}
 use Rattle.verdict.specs.declared.Check.{Check}
 use Rattle.verdict.specs.Check.{pinsIn}
 use Rattle.dump.specs.declared.Answer.{Answer}
-use Rattle.dump.specs.declared.Answer.the-variants as answer
 use Rattle.dump.specs.declared.Step.{Step}
 use Rattle.dump.specs.declared.writer.Writer.{Writer}
-use Rattle.dump.specs.Pieces.{headerOf, writtenBy, after}
-use Rattle.dump.specs.Answers.{onto, headerShort, linesShort, HeaderAnswer, PieceAnswer}
+use Rattle.dump.specs.Pieces.{headerOf, writtenBy}
+use Rattle.dump.specs.Answers.{valuesOf, Answers, tooShort, wrote, headerShort, linesShort, headerOutcome, linesOutcome, PieceAnswers}
 use Rattle.soak.specs.Bytes.{bytesIn}
 
-onto-fits : (d old new : List ℕ) → new ≡ onto d old → length new ≡ length old → length d ≤ length new
-onto-fits d old new e l = let k = ap length e ∙ length-append d (drop (length d) old) in let m = length-drop (length d) old in omega arith
+fits : (t : Bool) (bytes old new : List ℕ) (a : Answer) → Answers (cond t (tooShort old) (wrote bytes old)) a new → length new ≡ length old → bytesIn (valuesOf a) ≤ length new
+fits true bytes old new a h l = rw (h .values) (omega arith)
+fits false bytes old new a h l =
+    let k = ap length (h .area) ∙ length-append bytes (drop (length bytes) old) in
+    let m = length-drop (length bytes) old in
+    rw (h .values) (omega arith)
 
-pub header-fits : {c : Check} {old new : List ℕ} {a : Answer} → HeaderAnswer c old new a → length new ≡ length old → bytesIn a ≤ length new
-header-fits {c} {old} {new} {a} h l = go (headerShort old) (h .answer) (h .area)
-  where
-    go : (t : Bool) → a ≡ cond t answer.Short (answer.Written (length (headerOf (pinsIn c)))) → new ≡ cond t old (onto (headerOf (pinsIn c)) old) → bytesIn a ≤ length new
-    go true f g = rw f (omega arith)
-    go false f g = rw f (onto-fits (headerOf (pinsIn c)) old new g l)
+pub header-fits : (c : Check) (old : List ℕ) {new : List ℕ} {a : Answer} → Answers (headerOutcome c old) a new → length new ≡ length old → bytesIn (valuesOf a) ≤ length new
+unfolding headerOutcome
+header-fits c old {new} {a} h l = fits (headerShort old) (headerOf (pinsIn c)) old new a h l
 
-pub piece-fits : {w : Writer} {bytes old new : List ℕ} {s : Step} → PieceAnswer w bytes old new s → length new ≡ length old → bytesIn (s .answer) ≤ length new
-piece-fits {w} {bytes} {old} {new} {s} h l = go (linesShort (length old) bytes) (h .step) (h .area)
-  where
-    go : (t : Bool) → s ≡ cond t (record { writer = w; answer = answer.Short }) (record { writer = after w bytes; answer = answer.Written (length (writtenBy w bytes)) }) → new ≡ cond t old (onto (writtenBy w bytes) old) → bytesIn (s .answer) ≤ length new
-    go true f g = rw f (omega arith)
-    go false f g = rw f (onto-fits (writtenBy w bytes) old new g l)
+pub piece-fits : {w : Writer} {bytes old new : List ℕ} {s : Step} → PieceAnswers w bytes old s new → length new ≡ length old → bytesIn (valuesOf (s .answer)) ≤ length new
+unfolding linesOutcome
+piece-fits {w} {bytes} {old} {new} {s} h l = fits (linesShort (length old) bytes) (writtenBy w bytes) old new (s .answer) (h .answers) l

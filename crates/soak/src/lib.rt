@@ -4,6 +4,7 @@ use dump::Answer;
 use dump::writer::Writer;
 use verdict::Check;
 ghost use mathlib.Core.Path.{_≡_};
+ghost use Rattle.dump.specs.Answers.{valuesOf};
 ghost use Rattle.soak.specs.Bytes.{bytesIn};
 
 // One piece more than the longest log has bytes: so many have shown that the log is longer.
@@ -31,7 +32,7 @@ fn tell(err: i32, number: u8) {
 
 // How many bytes were written.
 fn written(answer: Answer) -> usize
-    ensures { λ r. ⌜ r ≡ bytesIn answer ⌝ }
+    ensures { λ r. ⌜ r ≡ bytesIn (valuesOf answer) ⌝ }
 {
     match answer {
         Answer::Written(n) => n,
