@@ -2,7 +2,7 @@
 use Prim.Native.Nat.{ℕ, _+_, _-_, _/_, _≤_, _<_}
 use native.Mathlib.Omega.{arith}
 use mathlib.Core.Path.{_≡_, refl, ap}
-use mathlib.Core.Bool.{Bool, false}
+use mathlib.Core.Bool.{Bool}
 use mathlib.Core.List.{List, _++_}
 use lib.ListN.{length}
 use borrow.Author.Tests.{lt-ltb, le-ltb, eq-eqb, ne-eqb}
@@ -15,7 +15,7 @@ use Rattle.verdict.proofs.Claims.{whole-refusal, whole-pins}
 use Rattle.dump.specs.declared.Answer.the-variants as answer
 use Rattle.dump.specs.declared.writer.Writer.{Writer}
 use Rattle.figures.specs.Figures.{Wrote}
-use Rattle.dump.specs.Dump.{header, noCycle, changeLines, dumpOf}
+use Rattle.dump.specs.Dump.{header, dumpOf}
 use Rattle.dump.specs.Pieces.{headerOf, begun, writtenBy, after}
 use Rattle.dump.specs.Answers.{Outcome, written, Determined, Answers, refusedWith, tooShort, wrote, headerOutcome, linesOutcome, PieceAnswers, dumpOutcome}
 use Rattle.figures.proofs.Writing.{wrote-front}

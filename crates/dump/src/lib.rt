@@ -7,7 +7,6 @@ pub mod writer;
 use crate::wires::put_header;
 use crate::writer::Writer;
 use verdict::Check;
-ghost use mathlib.Core.Path.{_≡_};
 ghost use Rattle.dump.specs.Answers.{Answers, headerOutcome, PieceAnswers, dumpOutcome};
 
 // The bytes written from the area's start, a refusal's number, or that the area is too short; the last two leave the area as it was.
