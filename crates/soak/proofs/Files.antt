@@ -10,7 +10,7 @@ use Rattle.soak.specs.declared.output.Output.{Output}
 use Rattle.soak.specs.Output.{outputOf, wrote}
 use Rattle.soak.specs.Passes.{firstNumber, secondNumber, Checks, Writes}
 use Rattle.soak.specs.Files.{refusedFirst, refusedFile, standardOutput, numberLine, Dumps}
-use Rattle.soak.proofs.Second.{wrote-none}
+use Rattle.soak.proofs.SecondPass.{wrote-none}
 
 module _ (i : Input) (c : Check) (n : ℕ) (o e : Output) (x : Checks i c) (k : n ≡ firstNumber i c) (p : o ≡ outputOf (pos 1)) (q : e ≡ outputOf (pos 2)) where
   number-first : refusedFirst i (x .chunks) ≡ n

@@ -1,6 +1,6 @@
-pub mod Reading
-pub mod Fronts
-pub mod First
-pub mod Second
+pub mod Chunks
+pub mod Prefixes
+pub mod FirstPass
+pub mod SecondPass
 pub mod Files
 pub mod Claims

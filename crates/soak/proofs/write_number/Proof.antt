@@ -1,17 +1,17 @@
-use Rattle.soak.proofs.Fronts.{put-front, counts, room, writes}
+use Rattle.soak.proofs.Prefixes.{put-prefix, counts, room, wrote-prefix}
 use native.Mathlib.Omega.{arith}
 use borrow.Author.Needs.{needs}
 use Rattle.soak.proofs.write_number.Statement.{statement}
 use Rattle.soak.proofs.write_number.Tie as tie
 
 slice-aggregate-write : tie.Need-slice-aggregate-write
-slice-aggregate-write c = counts (put-front (c .before .before .number-line .ensures .1) (c .before .before .number-line .kept .1 .0) (c .before .before .number-line .ensures .0))
+slice-aggregate-write c = counts (put-prefix (c .before .before .number-line .ensures .1) (c .before .before .number-line .kept .1 .0) (c .before .before .number-line .ensures .0))
 
 write-requires : tie.Need-write-requires
-write-requires c κs = room (put-front (c .before .before .number-line .ensures .1) (c .before .before .number-line .kept .1 .0) (c .before .before .number-line .ensures .0)) _ _ (omega (arith, c .before .before .number-line .kept .1 .0, c .before .before .before .before .pre))
+write-requires c κs = room (put-prefix (c .before .before .number-line .ensures .1) (c .before .before .number-line .kept .1 .0) (c .before .before .number-line .ensures .0)) _ _ (omega (arith, c .before .before .number-line .kept .1 .0, c .before .before .before .before .pre))
 
 returns : tie.Need-returns
-returns c = writes (put-front (c .before .before .before .number-line .ensures .1) (c .before .before .before .number-line .kept .1 .0) (c .before .before .before .number-line .ensures .0)) _ (c .write .ensures)
+returns c = wrote-prefix (put-prefix (c .before .before .before .number-line .ensures .1) (c .before .before .before .number-line .kept .1 .0) (c .before .before .before .number-line .ensures .0)) _ (c .write .ensures)
 
 pub write-number-spec : {M : Type 1} → statement M
 write-number-spec =

@@ -2,14 +2,14 @@
 use mathlib.Core.Path.{_≡_, refl, sym, _∙_}
 use native.Mathlib.Omega.{arith}
 use lib.ListN.{length}
-use Rattle.soak.proofs.Reading.{toGo, within, goes-on, chunk-fits, chunk-counts}
-use Rattle.soak.proofs.First.{Checking, checks-none, checks-more, checks-end}
+use Rattle.soak.proofs.Chunks.{toGo, within, goes-on, chunk-fits, chunk-counts}
+use Rattle.soak.proofs.FirstPass.{ChecksSoFar, checks-none, checks-more, checks-end}
 use borrow.Author.Needs.{needs}
 use Rattle.soak.proofs.first_pass.check_chunks.Statement.{statement}
 use Rattle.soak.proofs.first_pass.check_chunks.Tie as tie
 
 abbrev Inv-loop : tie.InvT-loop
-Inv-loop area₀ input₀ check₀ area input check = (length area ≡ 640) × Checking input check
+Inv-loop area₀ input₀ check₀ area input check = (length area ≡ 640) × ChecksSoFar input check
 
 abbrev μ-loop : tie.MeasureT-loop
 μ-loop area₀ input₀ check₀ area input check = toGo input

@@ -1,5 +1,5 @@
 use mathlib.Core.Path.{sym, _∙_}
-use Rattle.soak.proofs.Second.{not-opened, opened}
+use Rattle.soak.proofs.SecondPass.{not-opened, opened}
 use borrow.Author.Needs.{needs}
 use Rattle.soak.proofs.second_pass.write_file.Statement.{statement}
 use Rattle.soak.proofs.second_pass.write_file.Tie as tie

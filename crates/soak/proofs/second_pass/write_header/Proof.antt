@@ -1,6 +1,6 @@
-use Rattle.soak.proofs.Fronts.{counts, most, room, writes}
+use Rattle.soak.proofs.Prefixes.{counts, most, room, wrote-prefix}
 use mathlib.Core.Path.{refl}
-use Rattle.soak.proofs.Second.{header-put}
+use Rattle.soak.proofs.SecondPass.{header-put}
 use native.Mathlib.Omega.{arith}
 use borrow.Author.Needs.{needs}
 use Rattle.soak.proofs.second_pass.write_header.Statement.{statement}
@@ -18,7 +18,7 @@ write-requires c κs = room (header-put _ _ _ _ _ refl (c .before .before .befor
 returns : tie.Need-returns
 returns c =
     let f = header-put _ _ _ _ _ refl (c .before .before .before .before .header .kept .1 .0) (c .before .before .before .before .header .ensures) (c .before .before .bytes-in .ensures) in
-    let e = writes f _ (c .write .ensures) in
+    let e = wrote-prefix f _ (c .write .ensures) in
     (e, rw e (omega (arith, most f, c .before .before .before .before .header .kept .1 .0, c .before .before .before .before .before .before .pre)))
 
 pub write-header-spec : {M : Type 1} → statement M

@@ -1,6 +1,6 @@
-use Rattle.soak.proofs.Fronts.{counts, most, room, writes}
+use Rattle.soak.proofs.Prefixes.{counts, most, room, wrote-prefix}
 use mathlib.Core.Path.{refl}
-use Rattle.soak.proofs.Second.{lines-put, writer-after}
+use Rattle.soak.proofs.SecondPass.{lines-put, writer-after}
 use native.Mathlib.Omega.{arith}
 use borrow.Author.Needs.{needs}
 use Rattle.soak.proofs.second_pass.write_lines.Statement.{statement}
@@ -20,7 +20,7 @@ returns c =
     let f = lines-put _ _ _ _ _ _ (c .before .before .before .before .before .before .before .before .pre .0) refl (c .before .before .before .before .before .piece .kept .1 .1 .0) (c .before .before .before .before .before .piece .ensures) (c .before .before .before .bytes-in .ensures) in
     record {
       writer = writer-after _ _ _ _ _ (c .before .before .before .before .before .before .before .before .pre .0) refl (c .before .before .before .before .before .piece .ensures);
-      output = writes f _ (c .write .ensures);
+      output = wrote-prefix f _ (c .write .ensures);
       most = omega (arith, most f, c .before .before .before .before .before .piece .kept .1 .1 .0);
     }
 

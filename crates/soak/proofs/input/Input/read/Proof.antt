@@ -1,6 +1,6 @@
 use mir.Syntax.{w64}
 use mir.Val.{toZ, ofZ}
-use Rattle.soak.proofs.Reading.{reads-chunk}
+use Rattle.soak.proofs.Chunks.{reads-chunk}
 use borrow.Author.Needs.{needs}
 use Rattle.soak.proofs.input.Input.read.Statement.{statement}
 use Rattle.soak.proofs.input.Input.read.Tie as tie

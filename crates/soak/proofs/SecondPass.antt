@@ -28,23 +28,23 @@ use Rattle.soak.specs.declared.second_pass.Lines.{Lines}
 use Rattle.soak.specs.Input.{Opens, Reads, more}
 use Rattle.soak.specs.Output.{wrote}
 use Rattle.soak.specs.Passes.{Chunks, bytesIn, WritesLines, WritesChunks, Writes}
-use Rattle.soak.proofs.Fronts.{Front}
-use Rattle.soak.proofs.Reading.{joined-more, within, chunks-none, chunks-more}
+use Rattle.soak.proofs.Prefixes.{Prefix}
+use Rattle.soak.proofs.Chunks.{joined-more, within, chunks-none, chunks-more}
 
 -- ---- what the dump put into its area
 
-put : (x : Outcome) (bytes old new : List ℕ) (a : Answer) → x ≡ wroteInto bytes old → length new ≡ length old → Answers x a new → Front new (bytesIn (valuesOf a)) bytes
+put : (x : Outcome) (bytes old new : List ℕ) (a : Answer) → x ≡ wroteInto bytes old → length new ≡ length old → Answers x a new → Prefix new (bytesIn (valuesOf a)) bytes
 put x bytes old new a e l h =
     let n : bytesIn (valuesOf a) ≡ length bytes = rw (h .values, e) in
     let area : new ≡ bytes ++ drop (length bytes) old = h .area ∙ rw e in
     let k = ap length area ∙ length-append bytes (drop (length bytes) old) in
-    record { fits = omega arith; front = rw (n, area) (take-at bytes (drop (length bytes) old) (length bytes) refl) }
+    record { fits = omega arith; same = rw (n, area) (take-at bytes (drop (length bytes) old) (length bytes) refl) }
 
-pub header-put : (c : Check) (old new : List ℕ) (a : Answer) (n : ℕ) → length old ≡ 6954 → length new ≡ length old → Answers (headerOutcome c old) a new → n ≡ bytesIn (valuesOf a) → Front new n (headerOf (pinsIn c))
+pub header-put : (c : Check) (old new : List ℕ) (a : Answer) (n : ℕ) → length old ≡ 6954 → length new ≡ length old → Answers (headerOutcome c old) a new → n ≡ bytesIn (valuesOf a) → Prefix new n (headerOf (pinsIn c))
 unfolding headerOutcome
 header-put c old new a n l k h e = rw e (put (headerOutcome c old) (headerOf (pinsIn c)) old new a (rw (le-ltb (length old) 6954 (omega arith))) k h)
 
-pub lines-put : (w : Writer) (chunk old new : List ℕ) (s : Step) (n : ℕ) → length chunk ≤ 640 → length old ≡ 2080 → length new ≡ length old → PieceAnswers w chunk old s new → n ≡ bytesIn (valuesOf (s .answer)) → Front new n (writtenBy w chunk)
+pub lines-put : (w : Writer) (chunk old new : List ℕ) (s : Step) (n : ℕ) → length chunk ≤ 640 → length old ≡ 2080 → length new ≡ length old → PieceAnswers w chunk old s new → n ≡ bytesIn (valuesOf (s .answer)) → Prefix new n (writtenBy w chunk)
 unfolding linesOutcome
 lines-put w chunk old new s n m l k h e =
     rw e (put (linesOutcome w chunk old) (writtenBy w chunk) old new (s .answer) (rw (le-ltb (length old / 32) (length chunk / 10 + 1) (omega arith))) k (h .answers))
@@ -55,7 +55,7 @@ writer-after w chunk old new s m l h = h .writer ∙ rw (le-ltb (length old / 32
 -- ---- one chunk more
 
 -- the lines of the chunks so far; a chunk that is not empty has at most 2,080 bytes of them
-pub record Writing (from : Input) (to : Output) (i : Input) (w : Writer) (o : Output) : Type 0 where
+pub record WritesSoFar (from : Input) (to : Output) (i : Input) (w : Writer) (o : Output) : Type 0 where
   pub fd : i .fd ≡ from .fd
   pub chunks : List (List ℕ)
   pub read : Chunks i chunks
@@ -86,9 +86,9 @@ nothing-after = refl
 pub wrote-none : (o : Output) → o ≡ wrote o []
 wrote-none o = let e : o .bytes + 0 ≡ o .bytes = omega arith in rw e
 
-pub writing-none : (i : Input) (o : Output) (w : Writer) → Opens i → w ≡ begun → Writing i o i w o
+pub writes-none : (i : Input) (o : Output) (w : Writer) → Opens i → w ≡ begun → WritesSoFar i o i w o
 unfolding writtenAll joined
-writing-none i o w s e = record {
+writes-none i o w s e = record {
   fd = refl;
   chunks = [];
   read = chunks-none i s;
@@ -97,9 +97,9 @@ writing-none i o w s e = record {
   most = omega arith;
 }
 
-pub writing-more : (from : Input) (to : Output) (i r : Input) (w : Writer) (o : Output) (area : List ℕ) (n : ℕ) (x : Lines)
-    → more i ≡ true → length area ≡ 640 → Reads i area r → n ≡ r .count → WritesLines w (take n area) o x → Writing from to i w o → Writing from to r (x .writer) (x .output)
-writing-more from to i r w o area n x m l h k y z =
+pub writes-more : (from : Input) (to : Output) (i r : Input) (w : Writer) (o : Output) (area : List ℕ) (n : ℕ) (x : Lines)
+    → more i ≡ true → length area ≡ 640 → Reads i area r → n ≡ r .count → WritesLines w (take n area) o x → WritesSoFar from to i w o → WritesSoFar from to r (x .writer) (x .output)
+writes-more from to i r w o area n x m l h k y z =
     let chunk = take (r .count) area in
     let new = none-or-most (after begun (joined (z .chunks))) area (r .count) (rw (k, z .writer) at (y .most)) in
     let e : r .bytes ≡ i .bytes + r .count = rw (h .input) in
@@ -113,11 +113,11 @@ writing-more from to i r w o area n x m l h k y z =
     }
 
 -- the count of the bytes does not overflow
-pub writing-small : (from : Input) (to : Output) (i : Input) (w : Writer) (o : Output) → to .bytes ≤ 6954 → more i ≡ true → Writing from to i w o → o .bytes < 2 ^ 63
-writing-small from to i w o h m z = let k = within i m in rw (z .output) (omega (arith, z .most))
+pub writes-small : (from : Input) (to : Output) (i : Input) (w : Writer) (o : Output) → to .bytes ≤ 6954 → more i ≡ true → WritesSoFar from to i w o → o .bytes < 2 ^ 63
+writes-small from to i w o h m z = let k = within i m in rw (z .output) (omega (arith, z .most))
 
-pub writing-end : (from : Input) (to : Output) (i : Input) (w : Writer) (o : Output) → more i ≡ false → Writing from to i w o → WritesChunks from to i o
-writing-end from to i w o m z = record { fd = z .fd; chunks = z .chunks; pass = record { read = z .read; ends = m }; output = z .output }
+pub writes-end : (from : Input) (to : Output) (i : Input) (w : Writer) (o : Output) → more i ≡ false → WritesSoFar from to i w o → WritesChunks from to i o
+writes-end from to i w o m z = record { fd = z .fd; chunks = z .chunks; pass = record { read = z .read; ends = m }; output = z .output }
 
 -- ---- the file opened again
 
