@@ -6,6 +6,7 @@
 # make oracle MCS=../MCS                          the Rust as judge; MCS is a checkout of GabePurc/MCS at fb281a0906
 # make oracle MCS=../MCS CALLS=10000000 SEED=7    a longer comparison, from another seed
 # make oracle MCS=../MCS BENCH=                   without the bench program: needs Rust alone
+# make dump [LOGS=1000] [SEED=1]                  the dump program beside a model in Python, on random logs cut at every place, and on other files
 # make bindings [MCS=../MCS]                      the static libraries, the Rust crate over them, and its tests
 # make simavr                                     AVR programs on simavr with the proved timers; needs libsimavr-dev, gcc-avr, avr-libc
 # make speed MCS=../MCS                           the timer beside the Rust, in nanoseconds and instructions
@@ -16,6 +17,7 @@ CORES ?= $(shell nproc)
 MCS ?=
 CALLS ?= 300000
 SEED ?= 1
+LOGS ?= 1000
 BENCH ?= target/bin/bench
 ORACLE := oracle/target/release
 
@@ -25,7 +27,7 @@ WARN := -Wall -Wextra -Wpedantic -Werror
 
 CARGO := MCS="$(abspath $(MCS))" cargo
 
-.PHONY: run waves soak test oracle against-bench library bindings simavr speed
+.PHONY: run waves soak test oracle against-bench dump library bindings simavr speed
 .DELETE_ON_ERROR:
 
 # Each command of the script with its answer under it; the story's answers are held to those that are stored.
@@ -67,6 +69,10 @@ against-bench: $(BENCH)
 	$(ORACLE)/compare --watchdog $(BENCH) $(CALLS) $(SEED)
 	$(ORACLE)/compare --board $(BENCH) $(CALLS) $(SEED)
 	oracle/files.sh $(BENCH)
+
+# oracle/dump/README.md has more.
+dump:
+	@program=$$(examples/program.sh vcd) && python3 oracle/dump/compare.py "$$program" $(LOGS) $(SEED) $(CORES) && python3 oracle/dump/files.py "$$program"
 
 library:
 	rt staticlib shell

@@ -9,8 +9,9 @@ use Rattle.door.specs.declared.Rule.{Rule}
 use Rattle.door.specs.declared.Rule.the-variants.{One, Two}
 use Rattle.door.specs.declared.Door.{Door}
 use Rattle.door.specs.declared.Edged.{Edged}
+use Rattle.door.specs.declared.Due.the-variants.{At, Nothing}
 use Rattle.door.specs.declared.Set.the-variants.{Refused, Made}
-use Rattle.door.specs.Door.{inRange, accepted, rearms, idle, heldFrom, begins, edgeTaken, setTo, late, edged, Valid}
+use Rattle.door.specs.Door.{inRange, accepted, rearms, idle, heldFrom, begins, edgeTaken, setTo, late, edged, DueDetermined, Valid}
 
 -- ---- tests and choices
 pub left : (a b : Bool) → a && b ≡ true → a ≡ true
@@ -99,3 +100,8 @@ edged-valid d cycle v =
 -- what is the definition's is valid as that is
 pub as-defined : {r x : Edged} → r ≡ x → Valid (x .door) → (r ≡ x) × Valid (r .door)
 as-defined e v = (e, rw e v)
+
+-- ---- when the close is due
+pub due-determined : DueDetermined
+due-determined (At cycle) = refl
+due-determined Nothing = refl

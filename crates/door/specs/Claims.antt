@@ -9,9 +9,7 @@ use Rattle.door.specs.declared.Rule.the-variants.{One, Two}
 use Rattle.door.specs.declared.Door.{Door}
 use Rattle.door.specs.declared.Set.{Set}
 use Rattle.door.specs.declared.Set.the-variants.{Refused, Made}
-use Rattle.door.specs.declared.Due.{Due}
-use Rattle.door.specs.declared.Due.the-variants.{At, Nothing}
-use Rattle.door.specs.Door.{idle, begins, setTo, numberOf, late, edged, closeOf, Valid}
+use Rattle.door.specs.Door.{idle, begins, setTo, numberOf, late, edged, Close, dueAt, nothingDue, closeOf, Valid}
 
 -- the door after a list of edges, each taken or refused
 unfoldable pub after : Door → List ℕ → Door
@@ -41,9 +39,9 @@ sameHold d [] = true
 sameHold d (edge ∷ edges) = not (beginsHold d edge) && sameHold (edged d edge .door) edges
 
 -- the close is due, and no later than a cycle
-abbrev pub DueBy : ℕ → Due → Type 0
-DueBy cycle (At due) = due .0 ≤ cycle
-DueBy cycle Nothing = ⊥
+abbrev pub DueBy : ℕ → Close → Type 0
+DueBy cycle (dueAt due) = due ≤ cycle
+DueBy cycle nothingDue = ⊥
 
 -- "no stream of edges moves a hold's due past its own first edge + cap"
 pub record CappedBy (cap : ℕ) (door : Door) : Type 0 where
@@ -57,11 +55,11 @@ abbrev pub Capped : Type 0
 Capped = (hold quiet cap : ℕ) (door : Door) → Makes (Two hold quiet cap) door → CappedBy cap door
 
 -- the close is due under both rules, or under none, and under rule two no later than under rule one
-abbrev pub NotAfter : Due → Due → Type 0
-NotAfter (At two) (At one) = two .0 ≤ one .0
-NotAfter (At two) Nothing = ⊥
-NotAfter Nothing (At one) = ⊥
-NotAfter Nothing Nothing = Unit {0}
+abbrev pub NotAfter : Close → Close → Type 0
+NotAfter (dueAt two) (dueAt one) = two ≤ one
+NotAfter (dueAt two) nothingDue = ⊥
+NotAfter nothingDue (dueAt one) = ⊥
+NotAfter nothingDue nothingDue = Unit {0}
 
 -- "nor past rule one's due for the same edges and hold"
 pub record NoLaterThan (one two : Door) (edges : List ℕ) : Type 0 where
@@ -80,14 +78,14 @@ NoLater = (hold quiet cap : ℕ) (two : Door) → Makes (Two hold quiet cap) two
 pub record Step : Type 0 where
   pub edge : ℕ
   pub number : ℕ
-  pub due : Due
+  pub due : Close
 
 -- an edge that is taken
 abbrev pub takes : ℕ → ℕ → Step
-takes edge due = record { edge = edge; number = 0; due = At (record { 0 = due }) }
+takes edge due = record { edge = edge; number = 0; due = dueAt due }
 
 -- an edge that is refused
-abbrev pub refuses : ℕ → ℕ → Due → Step
+abbrev pub refuses : ℕ → ℕ → Close → Step
 refuses edge number due = record { edge = edge; number = number; due = due }
 
 -- a rule, the number that setting it must answer, and its edges
@@ -117,7 +115,7 @@ readings =
     record { rule = One 100; number = 0; steps = takes 0 100 ∷ takes 30 130 ∷ takes 60 160 ∷ takes 120 220 ∷ takes 200 300 ∷ takes 250 350 ∷ takes 251 351 ∷ [] }
     ∷ record { rule = Two 100 50 250; number = 0; steps = takes 0 100 ∷ takes 30 100 ∷ takes 60 160 ∷ takes 120 220 ∷ takes 200 250 ∷ takes 250 350 ∷ takes 251 350 ∷ [] }
     ∷ record { rule = Two 100 50 250; number = 0; steps = takes 7 107 ∷ takes 56 107 ∷ takes 57 157 ∷ takes 156 256 ∷ takes 206 257 ∷ takes 256 257 ∷ takes 257 357 ∷ [] }
-    ∷ record { rule = Two 100 50 250; number = 0; steps = refuses (2 ^ 62) 2 Nothing ∷ takes 10 110 ∷ refuses 9 3 (At (record { 0 = 110 })) ∷ takes (2 ^ 62 - 1) (2 ^ 62 + 99) ∷ [] }
+    ∷ record { rule = Two 100 50 250; number = 0; steps = refuses (2 ^ 62) 2 nothingDue ∷ takes 10 110 ∷ refuses 9 3 (dueAt 110) ∷ takes (2 ^ 62 - 1) (2 ^ 62 + 99) ∷ [] }
     ∷ record { rule = Two (2 ^ 40) (2 ^ 40) (2 ^ 40); number = 0; steps = takes 1 (2 ^ 40 + 1) ∷ [] }
     ∷ record { rule = One 0; number = 22; steps = [] }
     ∷ record { rule = One (2 ^ 40 + 1); number = 22; steps = [] }

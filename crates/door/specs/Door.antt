@@ -93,9 +93,38 @@ late d cycle = lateAt (d .latest .0) cycle
 unfoldable pub edged : Door → ℕ → Edged
 edged d cycle = record { number = late d cycle; door = cond (eqb (late d cycle) 0) (edgeTaken d cycle) d }
 
--- when the close is due, or nothing
-abbrev pub closeOf : Door → Due
-closeOf d = cond (d .holding) (At (d .due)) Nothing
+-- when the close is due: at a cycle, or not at all while there is no hold
+pub data Close : Type 0 where
+  dueAt : ℕ → Close
+  nothingDue : Close
+
+-- when the close of a door is due
+abbrev pub closeOf : Door → Close
+closeOf d = cond (d .holding) (dueAt (d .due .0)) nothingDue
+
+-- the number of each case of `due`'s answer: 02 has no refusal for it
+abbrev pub dueNumber : Due → ℕ
+dueNumber (At cycle) = 0
+dueNumber Nothing = 0
+
+-- the values of each case of `due`'s answer
+abbrev pub dueValues : Due → Close
+dueValues (At cycle) = dueAt (cycle .0)
+dueValues Nothing = nothingDue
+
+-- the answer that values say
+abbrev pub dueOf : Close → Due
+dueOf (dueAt cycle) = At (record { 0 = cycle })
+dueOf nothingDue = Nothing
+
+-- DueDetermined: the values determine the answer, its case too
+abbrev pub DueDetermined : Type 0
+DueDetermined = (r : Due) → dueOf (dueValues r) ≡ r
+
+-- the code's answer says when the close of a door is due, and is no refusal
+pub record DueAnswers (d : Door) (r : Due) : Type 0 where
+  pub number : dueNumber r ≡ 0
+  pub values : dueValues r ≡ closeOf d
 
 -- what the calls keep of a door
 pub record Valid (d : Door) : Type 0 where

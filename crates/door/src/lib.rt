@@ -4,7 +4,7 @@ use time::units::Cycle;
 ghost use Prim.Native.Nat.{_≤_, _<_, _^_, min};
 ghost use mathlib.Core.Bool.{true};
 ghost use mathlib.Core.Path.{_≡_};
-ghost use Rattle.door.specs.Door.{inRange, accepted, rearms, dueUnder, idle, heldFrom, begins, edgeTaken, setTo, edged, closeOf, Valid, SetValid};
+ghost use Rattle.door.specs.Door.{inRange, accepted, rearms, dueUnder, idle, heldFrom, begins, edgeTaken, setTo, edged, DueAnswers, Valid, SetValid};
 
 // The longest hold, quiet time and cap, 2^40 cycles.
 const LONGEST: u64 = 0x100_0000_0000;
@@ -174,7 +174,7 @@ impl Door {
 
     // When the close is due.
     pub fn due(self) -> Due
-        ensures { λ r. ⌜ r ≡ closeOf self ⌝ }
+        ensures { λ r. ⌜ DueAnswers self r ⌝ }
     {
         let close = self.due;
         if self.holding {

@@ -7,12 +7,10 @@ use Rattle.figures.specs.Figures.{text}
 use Rattle.words.specs.Words.{skipOf, findOf, placeOf}
 use Rattle.words.specs.Numbers.{between}
 use Rattle.page.proofs.Lengths.{said, numbered, either, unreadable-short}
-use Rattle.door.specs.Door.{setTo, edged, closeOf}
+use Rattle.door.specs.Door.{setTo, edged, Close, dueAt, nothingDue, closeOf}
 use Rattle.door.specs.declared.Edged.{Edged}
 use Rattle.door.specs.declared.Set.{Set}
 use Rattle.door.specs.declared.Set.the-variants as set
-use Rattle.door.specs.declared.Due.{Due}
-use Rattle.door.specs.declared.Due.the-variants as due
 use Rattle.door_lines.specs.declared.asked.Asked.{Asked}
 use Rattle.door_lines.specs.declared.rules.Doors.{Doors}
 use Rattle.door_lines.specs.Asked.{askedOf, ruleOf}
@@ -22,10 +20,10 @@ use Rattle.door_lines.specs.Claims.{Short}
 abbrev Brief : Lined → Type 0
 Brief x = length (x .bytes) ≤ 49
 
-due-short : (d : Due) → length (dueLine d) ≤ 49
+due-short : (d : Close) → length (dueLine d) ≤ 49
 unfolding dueLine
-due-short (due.At cycle) = numbered _ _ (cycle .0) (omega arith)
-due-short due.Nothing = said _ (omega arith)
+due-short (dueAt cycle) = numbered _ _ cycle (omega arith)
+due-short nothingDue = said _ (omega arith)
 
 rule-short : (d : Doors) (s : Set) → Brief (ruledOf d s)
 unfolding ruledOf

@@ -9,14 +9,12 @@ use Rattle.figures.specs.Figures.{text, number}
 use Rattle.words.specs.Words.{skipOf, findOf, placeOf}
 use Rattle.words.specs.Numbers.{between}
 use Rattle.page.specs.Page.{Puts, unreadableOf}
-use Rattle.door.specs.Door.{SetValid, setTo, edged, closeOf}
+use Rattle.door.specs.Door.{SetValid, setTo, edged, Close, dueAt, nothingDue, closeOf}
 use Rattle.door.specs.declared.Door.{Door}
 use Rattle.door.specs.declared.Edged.{Edged}
 use Rattle.door.specs.declared.Rule.{Rule}
 use Rattle.door.specs.declared.Set.{Set}
 use Rattle.door.specs.declared.Set.the-variants as set
-use Rattle.door.specs.declared.Due.{Due}
-use Rattle.door.specs.declared.Due.the-variants as due
 use Rattle.door_lines.specs.declared.asked.Asked.{Asked}
 use Rattle.door_lines.specs.declared.rules.Doors.{Doors}
 use Rattle.door_lines.specs.declared.rules.Left.{Left}
@@ -32,9 +30,9 @@ abbrev pub saying : Doors → List ℕ → Lined
 saying d bytes = record { doors = d; bytes = bytes }
 
 -- "ok due=N": "when the close is due"
-unfoldable pub dueLine : Due → List ℕ
-dueLine (due.At cycle) = text "ok due=" ++ number (cycle .0)
-dueLine due.Nothing = text "ok due=none"
+unfoldable pub dueLine : Close → List ℕ
+dueLine (dueAt cycle) = text "ok due=" ++ number cycle
+dueLine nothingDue = text "ok due=none"
 
 -- a door that is kept, and when its close is due
 abbrev pub keptOf : Door → Lined

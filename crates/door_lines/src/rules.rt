@@ -16,7 +16,7 @@ use words::UNKNOWN_COMMAND;
 use words::find;
 use words::place;
 use words::skip;
-ghost use Rattle.door.specs.Door.{Valid, SetValid};
+ghost use Rattle.door.specs.Door.{Valid, SetValid, dueValues};
 ghost use Rattle.page.specs.Page.{Puts};
 ghost use Rattle.door_lines.specs.Rules.{Leaves, dueLine, keptOf, setOf, edgedOf, edgeOf, heardOf, doorLine};
 
@@ -33,7 +33,7 @@ pub struct Left {
 
 // Puts when a close is due.
 fn due(page: &mut Page, from: usize, due: Due) -> usize
-    ensures { λ r. ⌜ Puts (now (page .entry)) from (now (page .exit)) r (dueLine due) ⌝ }
+    ensures { λ r. ⌜ Puts (now (page .entry)) from (now (page .exit)) r (dueLine (dueValues due)) ⌝ }
 {
     match due {
         Due::At(cycle) => number(page, from, b"ok due=", cycle.0),

@@ -7,9 +7,7 @@ use Rattle.door.specs.declared.Door.{Door}
 use Rattle.door.specs.declared.Set.{Set}
 use Rattle.door.specs.declared.Set.the-variants as set
 use Rattle.door.specs.declared.Edged.{Edged}
-use Rattle.door.specs.declared.Due.{Due}
-use Rattle.door.specs.declared.Due.the-variants as due
-use Rattle.door.specs.Door.{closeOf}
+use Rattle.door.specs.Door.{Close, dueAt, nothingDue, closeOf}
 use Rattle.doorlog.specs.declared.doors.Terms.{Terms}
 use Rattle.doorlog.specs.declared.doors.Kept.{Kept}
 use Rattle.doorlog.specs.declared.doors.Told.{Told}
@@ -32,13 +30,13 @@ abbrev pub keptOf : Door → Kept
 keptOf d = record { terms = termsOf (d .rule); holding = d .holding; first = d .first; rearmed = d .rearmed; due = d .due; latest = d .latest }
 
 -- whether a close is due, and when; 0 where it is not
-abbrev pub pendingOf : Due → Bool
-pendingOf (due.At c) = true
-pendingOf due.Nothing = false
+abbrev pub pendingOf : Close → Bool
+pendingOf (dueAt cycle) = true
+pendingOf nothingDue = false
 
-abbrev pub cycleOf : Due → ℕ
-cycleOf (due.At c) = c .0
-cycleOf due.Nothing = 0
+abbrev pub cycleOf : Close → ℕ
+cycleOf (dueAt cycle) = cycle
+cycleOf nothingDue = 0
 
 -- a number and a door, with when its close is due
 abbrev pub answerOf : ℕ → Door → Told

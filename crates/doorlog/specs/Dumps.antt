@@ -1,21 +1,28 @@
--- A dump's answer in numbers (02, 2.3).
+-- A dump's outcome in numbers (02, 2.3).
 use Prim.Native.Nat.{ℕ}
-use mathlib.Core.Bool.{true, false}
+use mathlib.Core.Bool.{Bool, true, false}
 use mathlib.Core.List.{List}
 use mathlib.Core.Path.{_≡_}
-use Rattle.dump.specs.declared.Answer.{Answer}
-use Rattle.dump.specs.declared.Answer.the-variants as answer
-use Rattle.dump.specs.Answers.{DumpAnswer}
+use Rattle.dump.specs.Answers.{Values, refused, short, written, Outcome}
 use Rattle.doorlog.specs.declared.dumps.Dumped.{Dumped}
 
--- an answer in numbers
-abbrev pub numbersOf : Answer → Dumped
-numbersOf (answer.Written n) = record { number = 0; short = false; written = n }
-numbersOf (answer.Refused n) = record { number = n; short = false; written = 0 }
-numbersOf answer.Short = record { number = 0; short = true; written = 0 }
+-- whether the area is too short
+abbrev pub shortOf : Values → Bool
+shortOf refused = false
+shortOf short = true
+shortOf (written n) = false
 
--- the numbers are those of the dump's answer, and every byte of the area is the dump's
-pub record Dumps (log old new : List ℕ) (r : Dumped) : Type 0 where
-  pub answer : Answer
-  pub told : DumpAnswer log old new answer
-  pub numbers : r ≡ numbersOf answer
+-- how many bytes were written, none of a refused or a short call
+abbrev pub writtenOf : Values → ℕ
+writtenOf refused = 0
+writtenOf short = 0
+writtenOf (written n) = n
+
+-- a number and values in numbers
+abbrev pub numbersOf : ℕ → Values → Dumped
+numbersOf number values = record { number = number; short = shortOf values; written = writtenOf values }
+
+-- the numbers, and every byte of the area, are those of an outcome
+pub record Dumps (x : Outcome) (r : Dumped) (after : List ℕ) : Type 0 where
+  pub numbers : r ≡ numbersOf (x .number) (x .values)
+  pub area : after ≡ x .area

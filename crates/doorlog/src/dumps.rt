@@ -3,6 +3,7 @@
 use dump::Answer;
 use dump::dump;
 ghost use mathlib.Core.Path.{_≡_};
+ghost use Rattle.dump.specs.Answers.{numberOf, valuesOf, dumpOutcome};
 ghost use Rattle.doorlog.specs.Dumps.{numbersOf, Dumps};
 
 // number is the refusal's, 0 for none; short is whether the area is too short. written counts the area's bytes, none of a refused or a short call.
@@ -15,7 +16,7 @@ pub struct Dumped {
 
 // Yields an answer in numbers.
 fn numbers(answer: Answer) -> Dumped
-    ensures { λ r. ⌜ r ≡ numbersOf answer ⌝ }
+    ensures { λ r. ⌜ r ≡ numbersOf (numberOf answer) (valuesOf answer) ⌝ }
 {
     match answer {
         Answer::Written(n) => Dumped {
@@ -39,7 +40,7 @@ fn numbers(answer: Answer) -> Dumped
 // Puts the dump of a whole log; the area has 6,954 bytes for its header, and 32 for each record and one more.
 #[no_mangle]
 pub extern "C" fn paddlemauve_dump(log: &[u8], out: &mut [u8]) -> Dumped
-    ensures { λ r. ⌜ Dumps (now (log .entry)) (now (out .entry)) (now (out .exit)) r ⌝ }
+    ensures { λ r. ⌜ Dumps (dumpOutcome (now (log .entry)) (now (out .entry))) r (now (out .exit)) ⌝ }
 {
     numbers(dump(log, out))
 }

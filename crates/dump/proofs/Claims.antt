@@ -193,23 +193,23 @@ changes-read time last (c ∷ cs) p h =
 
 -- ---- any cut
 
-written-append : (w : Writer) (a b : List ℕ) → writtenBy w (a ++ b) ≡ writtenBy w a ++ writtenBy (after w a) b
+pub written-append : (w : Writer) (a b : List ℕ) → writtenBy w (a ++ b) ≡ writtenBy w a ++ writtenBy (after w a) b
 unfolding writtenBy after
 written-append w a b =
     ap (λ (x : List _). changeLines (w .last) (changes x)) (wholes-append (w .part) a b)
     ∙ ap (changeLines (w .last)) (changes-append (wholes (w .part) a) (wholes (partAfter (w .part) a) b))
     ∙ lines-append (w .last) (changes (wholes (w .part) a)) (changes (wholes (partAfter (w .part) a) b))
 
-after-append : (w : Writer) (a b : List ℕ) → after w (a ++ b) ≡ after (after w a) b
+pub after-append : (w : Writer) (a b : List ℕ) → after w (a ++ b) ≡ after (after w a) b
 unfolding after
 after-append w a b =
     rw (part-append (w .part) a b, wholes-append (w .part) a b, changes-append (wholes (w .part) a) (wholes (partAfter (w .part) a) b), last-append (w .last) (changes (wholes (w .part) a)) (changes (wholes (partAfter (w .part) a) b)))
 
-nothing-written : (w : Writer) → writtenBy w [] ≡ []
+pub nothing-written : (w : Writer) → writtenBy w [] ≡ []
 unfolding writtenBy wholes changes changeLines
 nothing-written w = refl
 
-written-all : (w : Writer) (pieces : List (List ℕ)) → writtenAll w pieces ≡ writtenBy w (joined pieces)
+pub written-all : (w : Writer) (pieces : List (List ℕ)) → writtenAll w pieces ≡ writtenBy w (joined pieces)
 unfolding writtenAll joined
 written-all w [] = sym (nothing-written w)
 written-all w (piece ∷ pieces) = ap (λ (x : List ℕ). writtenBy w piece ++ x) (written-all (after w piece) pieces) ∙ sym (written-append w piece (joined pieces))

@@ -7,8 +7,7 @@ pub mod writer;
 use crate::wires::put_header;
 use crate::writer::Writer;
 use verdict::Check;
-ghost use mathlib.Core.Path.{_≡_};
-ghost use Rattle.dump.specs.Answers.{HeaderAnswer, PieceAnswer, DumpAnswer};
+ghost use Rattle.dump.specs.Answers.{Answers, headerOutcome, PieceAnswers, dumpOutcome};
 
 // The bytes written from the area's start, a refusal's number, or that the area is too short; the last two leave the area as it was.
 pub enum Answer {
@@ -25,7 +24,7 @@ pub struct Step {
 
 // Puts the lines before the changes, of the log that was checked; they take at most 6,954 bytes.
 pub fn header(check: Check, out: &mut [u8]) -> Answer
-    ensures { λ r. ⌜ HeaderAnswer check (now (out .entry)) (now (out .exit)) r ⌝ }
+    ensures { λ r. ⌜ Answers (headerOutcome check (now (out .entry))) r (now (out .exit)) ⌝ }
 {
     if out.len() < 6954 {
         return Answer::Short;
@@ -35,7 +34,7 @@ pub fn header(check: Check, out: &mut [u8]) -> Answer
 
 // Puts the lines of a log's next piece, cut anywhere; the area has 32 bytes for each record that it may make whole.
 pub fn piece(writer: Writer, bytes: &[u8], out: &mut [u8]) -> Step
-    ensures { λ r. ⌜ PieceAnswer writer (now (bytes .entry)) (now (out .entry)) (now (out .exit)) r ⌝ }
+    ensures { λ r. ⌜ PieceAnswers writer (now (bytes .entry)) (now (out .entry)) r (now (out .exit)) ⌝ }
 {
     if out.len() / 32 < bytes.len() / 10 + 1 {
         return Step {
@@ -53,7 +52,7 @@ pub fn piece(writer: Writer, bytes: &[u8], out: &mut [u8]) -> Step
 
 // Puts the dump of a whole log; the area has 6,954 bytes for its header, and 32 for each record and one more.
 pub fn dump(log: &[u8], out: &mut [u8]) -> Answer
-    ensures { λ r. ⌜ DumpAnswer (now (log .entry)) (now (out .entry)) (now (out .exit)) r ⌝ }
+    ensures { λ r. ⌜ Answers (dumpOutcome (now (log .entry)) (now (out .entry))) r (now (out .exit)) ⌝ }
 {
     let check = Check::new().piece(log);
     let number = check.refusal();

@@ -44,7 +44,7 @@ nothing-wholes : (p : Part) → wholes p [] ≡ []
 unfolding wholes
 nothing-wholes p = refl
 
-bytes-take : (n : ℕ) (l : List ℕ) → Bytes l → Bytes (take n l)
+pub bytes-take : (n : ℕ) (l : List ℕ) → Bytes l → Bytes (take n l)
 bytes-take zero l h k = omega arith
 bytes-take (suc n) [] h k = omega arith
 bytes-take (suc n) (x ∷ l) h zero = h 0
