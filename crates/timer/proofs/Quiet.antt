@@ -30,7 +30,7 @@ use Rattle.tick.proofs.Still.{tick-still, still-at}
 use Rattle.answers.specs.Answers.{event, turned}
 use Rattle.timer.specs.declared.calls.Call.the-variants as call
 use Rattle.timer.specs.Calls.{asks, works, says, before, worked, performed, refusalOf, answered}
-use Rattle.timer.specs.Claims.{told, tickCycle, plainAfter, steppedOn, Quietly, Quiet}
+use Rattle.timer.specs.Claims.{told, tickCycle, plainAfter, steppedOn, QuietOf, Quiet}
 use Rattle.counter.proofs.Keeps.{fresh-is-valid}
 use Rattle.timer.proofs.Keeps.{last-valid}
 
@@ -84,9 +84,9 @@ step-on : (w : Wave) (m : Moving) → linear w 1 m ≡ steppedOn w m
 unfolding linear moved
 step-on w m = simp and-false
 
-pub quietly : (t : Timer) → Valid t → Quietly t
+pub quiet-of : (t : Timer) → Valid t → QuietOf t
 unfolding settingAt start quietRun
-quietly t v cycle area at flags n h l =
+quiet-of t v cycle area at flags n h l =
     let s = valid-sound t v in
     let w : Wave = waveOf t (modeOf t) in
     let g = below t n (rw (announces t (next-told t cycle area h) .cycle) at l) in
@@ -95,4 +95,4 @@ quietly t v cycle area at flags n h l =
     rw e (tick-still (settingOf t) _ (still-at w (movingOf t) (s .steady) n g) ∙ rw (step-on w (linear w n (movingOf t))))
 
 pub quiet : Quiet
-quiet c e qs = quietly _ (last-valid _ qs (fresh-is-valid c e))
+quiet c e qs = quiet-of _ (last-valid _ qs (fresh-is-valid c e))

@@ -111,14 +111,14 @@ steppedOn w m = record {
 }
 
 -- after n single ticks, a prescaled tick whose cycle lies before the cycle that next answers only steps the count, adds one to the odometer and lifts a blocked match: no record
-abbrev pub Quietly : Timer → Type 0
-Quietly t = (cycle : ℕ) (area : List ℕ) (at : Cycle) (flags n : ℕ)
+abbrev pub QuietOf : Timer → Type 0
+QuietOf t = (cycle : ℕ) (area : List ℕ) (at : Cycle) (flags n : ℕ)
     → told ticks t (record { call = call.Next; cycle = cycle; area = area }) .values ≡ event (At at flags) → tickCycle t (suc n) < at .0
     → tick (settingOf t) (plainAfter t n) ≡ record { moving = steppedOn (waveOf t (modeOf t)) (plainAfter t n); log = [] }
 
 -- Quiet: after any list
 abbrev pub Quiet : Type 0
-Quiet = (c : Config) → accepted c ≡ true → (qs : List Request) → Quietly (last ticks (freshOf c) qs)
+Quiet = (c : Config) → accepted c ≡ true → (qs : List Request) → QuietOf (last ticks (freshOf c) qs)
 
 -- Progress: an area of 110 bytes always gets one event tick done
 abbrev pub Progress : Type 0
