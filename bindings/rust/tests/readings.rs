@@ -18,6 +18,9 @@ const OCFA: u8 = 2;
 const OCFB: u8 = 4;
 const ICF: u8 = 0x20;
 
+/// Timer1 with id 0, as the readings have it.
+const TIMER1: Config = Config { id: 0, ..Config::M328P_TIMER1 };
+
 /// A fresh timer with registers written at cycle 0.
 fn fresh(config: &Config, writes: &[(u16, u8)]) -> Timer {
     let mut timer = Timer::new(config).expect("the preset is accepted");
@@ -124,21 +127,23 @@ fn t7_direction_survives() {
 #[test]
 fn t8_wide() {
     let writes = [(OCR1A + 1, 0x3d), (OCR1A, 8), (OCR1B + 1, 0xff), (OCR1B, 0xff), (TCCR1B, 0x0d)];
-    let mut timer = fresh(&Config::M328P_TIMER1, &writes);
+    let mut timer = fresh(&TIMER1, &writes);
     assert_eq!(timer.next(0), announced(16_000_000, OCFA));
 }
 
 #[test]
 fn t9_capture() {
     let writes = [(OCR1A + 1, 0xff), (OCR1A, 0xff), (OCR1B + 1, 0xff), (OCR1B, 0xff), (TCCR1B, 0x42)];
-    let mut timer = fresh(&Config::M328P_TIMER1, &writes);
+    let mut timer = fresh(&TIMER1, &writes);
     let mut area = [0; EVENT];
     assert_eq!(timer.edge(14, 1, 1003, &mut area), Ok(20));
-    let captured = Event::Flags { raised: ICF, lines: 0 };
-    assert_eq!(records(&area[..20]).next(), Some(Record { cycle: 1003, event: captured }));
-    assert_eq!((timer.peek(ICR1, 1003), timer.tifr(1003)), (Ok(125), Ok(ICF)));
+    let captured = [Event::Flags { raised: ICF, lines: 0 }, Event::Trigger { trigger: 4, id: 0 }];
+    assert!(records(&area[..20]).eq(captured.map(|event| Record { cycle: 1003, event })));
+    assert_eq!([ICR1 + 1, ICR1].map(|byte| timer.peek(byte, 1003)), [0, 125].map(Ok));
+    assert_eq!(timer.tifr(1003), Ok(ICF));
     assert_eq!(timer.edge(14, 0, 1100, &mut area), Ok(0));
-    assert_eq!((timer.peek(ICR1, 1100), timer.tifr(1100)), (Ok(125), Ok(ICF)));
+    assert_eq!([ICR1 + 1, ICR1].map(|byte| timer.peek(byte, 1100)), [0, 125].map(Ok));
+    assert_eq!(timer.tifr(1100), Ok(ICF));
 }
 
 #[test]

@@ -3,19 +3,18 @@ use Prim.Native.Nat.{ℕ, _+_, _*_, _/_, _%_, _≤_, _^_}
 use native.Mathlib.Omega.{arith}
 use native.Mathlib.Nat.{mul-add, mul-zero}
 use mathlib.Core.Path.{_≡_, refl, subst, _∙_}
-use mathlib.Core.Bool.{Bool, true, false, cond, not, _&&_, _||_, true≢false, false≢true}
+use mathlib.Core.Bool.{true, false, true≢false}
 use mathlib.Core.List.{List, [], _∷_, _++_}
-use lib.Dec.{eqb, leb}
+use lib.Dec.{eqb}
 use lib.ListN.{length, drop}
-use borrow.Author.Tests.{eqb-true, eqb-false}
 use Rattle.records.specs.Records.{recordsOf}
 use Rattle.config.specs.declared.Config.{Config}
 use Rattle.config.specs.Config.{accepted}
-use Rattle.tick.proofs.Choices.{cond-case, cond-all}
+use Rattle.tick.proofs.Choices.{cond-all}
 use Rattle.counter.specs.declared.state.Timer.{Timer}
 use Rattle.counter.specs.Fresh.{freshOf}
 use Rattle.counter.specs.Halts.{latestTo, halting}
-use Rattle.counter.specs.Modes.{modeOf, kindAt, maxAt}
+use Rattle.counter.specs.Modes.{modeOf, maxAt}
 use Rattle.counter.specs.Passage.{Passed, advanced}
 use Rattle.counter.specs.Valid.{Valid}
 use Rattle.counter.proofs.Keeps.{Lasts, fresh-is-valid}
@@ -23,12 +22,12 @@ use Rattle.passage.specs.Passage.{ticks}
 use Rattle.answers.specs.Answers.{Told, given}
 use Rattle.timer.specs.declared.calls.Call.{Call}
 use Rattle.timer.specs.declared.calls.Call.the-variants as call
-use Rattle.timer.specs.Calls.{placed, outputCaptures, asks, works, says, before, worked, moved, performed, refusalOf, answered}
+use Rattle.timer.specs.Calls.{placed, outputCaptures, asks, works, says, before, moved}
 use Rattle.timer.specs.Claims.{Request, told, outcomes, last, setsCount}
-use Rattle.timer.proofs.Accepted.{Accepted, call-accepted}
+use Rattle.timer.proofs.Accepted.{Accepted, told-taken}
 use Rattle.timer.proofs.Keeps.{call-keeps, last-valid}
 use Rattle.timer.proofs.Timely.{Timely, timely}
-use Rattle.account.specs.Account.{raisings, overflows, Normal, Counting, watchOf, ticksMade, Closes, Account}
+use Rattle.account.specs.Account.{raisings, overflows, Normal, Counting, watchOf, ticksMade, Account}
 use Rattle.account.specs.Watch.{Watch, madeAt, hears, follows}
 use Rattle.account.proofs.Records.{raisers, Worth, worth-then, worth-is}
 use Rattle.account.proofs.Spans.{Spans, before-spans, advance-spans}
@@ -57,44 +56,7 @@ call-steps t x w (call.Tsm level) cycle v g n s = tsm-steps w x g cycle level (�
 call-steps t x w (call.Prescale mask) cycle v g n s = prescale-steps w x g cycle mask (λ e. v .synced (rw (v .config) at e))
 call-steps t x w call.Reset cycle v g n s = absurd (true≢false s)
 
--- the advance tells the clock nothing
-advance-unheard : (t : Timer) (k : Call) → asks t k .advances ≡ true → (c : Config) (w : Watch) (cycle : ℕ) → hears c w k cycle ≡ w
-unfolding asks hears
-advance-unheard t call.Advance e c w cycle = refl
-advance-unheard t call.Next e c w cycle = absurd (false≢true e)
-advance-unheard t (call.Read address) e c w cycle = absurd (false≢true e)
-advance-unheard t (call.Peek address) e c w cycle = absurd (false≢true e)
-advance-unheard t (call.Write address value) e c w cycle = absurd (false≢true e)
-advance-unheard t call.Tifr e c w cycle = absurd (false≢true e)
-advance-unheard t call.Timsk e c w cycle = absurd (false≢true e)
-advance-unheard t (call.WriteTifr ones) e c w cycle = absurd (false≢true e)
-advance-unheard t (call.WriteTimsk mask) e c w cycle = absurd (false≢true e)
-advance-unheard t (call.Edge pin level) e c w cycle = absurd (false≢true e)
-advance-unheard t (call.Output level) e c w cycle = absurd (false≢true e)
-advance-unheard t (call.Route level) e c w cycle = absurd (false≢true e)
-advance-unheard t (call.Sleep mode) e c w cycle = absurd (false≢true e)
-advance-unheard t call.Wake e c w cycle = absurd (false≢true e)
-advance-unheard t (call.Reduce mask) e c w cycle = absurd (false≢true e)
-advance-unheard t (call.Tsm level) e c w cycle = absurd (false≢true e)
-advance-unheard t (call.Prescale mask) e c w cycle = absurd (false≢true e)
-advance-unheard t call.Reset e c w cycle = absurd (false≢true e)
-
--- ---- a call that is accepted: the advance, or time that passes and the call's own work
-taken : (Q : Told → Type 0) (t : Timer) (q : Request)
-    → (Accepted t (q .call) (q .cycle) → asks t (q .call) .advances ≡ true → Q (moved (advanced ticks t (q .cycle) (length (q .area))) (q .area)))
-    → (Accepted t (q .call) (q .cycle) → let x = before ticks t (asks t (q .call) .syncs) (q .cycle) in let n = works (x .timer) (q .call) (q .cycle) in
-    Q (given (latestTo (n .timer) (q .cycle)) (says (x .timer) (q .call)) (x .bytes ++ recordsOf (q .cycle) (n .log)) (q .area)))
-    → told ticks t q .number ≡ 0 → Q (told ticks t q)
-unfolding answered performed worked
-taken Q t q advance work =
-    cond-case Yes (eqb (refusalOf t (q .call) (q .cycle)) 0)
-    (λ e. let a = call-accepted t (q .call) (q .cycle) (eqb-true _ _ e) in
-    cond-case Yes (asks t (q .call) .advances) (λ k z. advance a k) (λ k. cond-all Yes (leb _ (length (q .area))) (λ z. work a) (λ z. absurd (omega arith))))
-    (λ e z. absurd (eqb-false _ _ e z))
-  where
-    Yes : Told → Type 0
-    Yes x = x .number ≡ 0 → Q x
-
+-- ---- a call that is accepted
 -- what it makes of the sums: so many ticks
 record Sums (w : Watch) (t : Timer) (v : Watch) (x : Told) : Type 0 where
   made : ℕ
@@ -164,9 +126,10 @@ module _ (t : Timer) (w : Watch) (v : Valid t) (g : Agrees w t) (n : Normal t) w
       }
 
   call-sums : (q : Request) → told ticks t q .number ≡ 0 → setsCount t (q .call) ≡ false → Sums w t (hears (t .config) w (q .call) (q .cycle)) (told ticks t q)
+  unfolding hears
   call-sums q k z =
-      taken (Sums w t (hears (t .config) w (q .call) (q .cycle))) t q
-      (λ a e. rw (advance-unheard t (q .call) e (t .config) w (q .cycle)) (advance-sums (q .cycle) (q .area) (a .latest)))
+      told-taken (Sums w t (hears (t .config) w (q .call) (q .cycle))) t q
+      (λ a e. rw e (advance-sums (q .cycle) (q .area) (a .latest)))
       (λ a. work-sums (q .call) (q .cycle) (q .area) a z) k
 
 -- ---- a list of calls

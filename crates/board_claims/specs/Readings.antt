@@ -8,7 +8,7 @@ use Rattle.passage.specs.Passage.{ticks}
 use Rattle.answers.specs.Answers.{Values, refused, none, byte}
 use Rattle.timer.specs.declared.calls.Call.{Call}
 use Rattle.timer.specs.declared.calls.Call.the-variants as call
-use Rattle.timer.specs.Readings.{Step, Reading, readings}
+use Rattle.timer.specs.Readings.{Step, Reading, readingsWith}
 use Rattle.m328p.specs.declared.Id.{Id}
 use Rattle.m328p.specs.declared.Id.the-variants as id
 use Rattle.aims.specs.declared.Order.{Order}
@@ -202,5 +202,5 @@ replayed (s ∷ ss) = played freshBoard s ∷ replayed ss
 
 -- Readings: T1 to T10 as the bench answers them, and the board's own, by computation
 pub record Readings : Type 0 where
-  pub timers : replayedOn readings ≡ readings
+  pub timers : replayedOn (readingsWith 1) ≡ readingsWith 1
   pub board : replayed beats ≡ beats

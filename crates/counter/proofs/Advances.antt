@@ -13,14 +13,14 @@ use Rattle.time.specs.Units.{ticksAt, cycleAt}
 use Rattle.wave.specs.Distance.{gap}
 use Rattle.time.proofs.Clocks.{ticks-mono, cycle-mono, tick-before}
 use Rattle.passage.specs.declared.Progress.{Progress}
-use Rattle.passage.specs.declared.Aside.{Aside}
 use Rattle.passage.specs.declared.Finished.{Finished}
 use Rattle.tick.specs.declared.setting.Moving.{Moving}
 use Rattle.tick.specs.declared.setting.Setting.{Setting}
+use Rattle.tick.specs.declared.tick.Logged.{Logged as Ticked}
 use Rattle.tick.specs.Skip.{linear}
-use Rattle.passage.specs.Passage.{ticks, Ready, Ran, Made, Finishes}
+use Rattle.tick.specs.Tick.{tick, Logs as TickLogs}
+use Rattle.passage.specs.Passage.{ticks, Ready, Ran, Finishes}
 use Rattle.tick.specs.Sound.{Steady}
-use Rattle.tick.proofs.Still.{linear-none}
 use Rattle.passage.proofs.Loops.{within, runOf, begins, ended, joined}
 use Rattle.counter.specs.declared.advance.Work.{Work}
 use Rattle.counter.specs.declared.state.Timer.{Timer}
@@ -120,7 +120,7 @@ module _ {t : Timer} {cycle : ℕ} {p : Prescaler} {w : Wave} {m : Moving} {g a 
   begun-ready before es =
       record {
         sound = rw (es, x .moving) (valid-sound t (x .valid));
-        gap = rw (es, ← x .wave, ← begun-gap) (le-refl g);
+        gap = rw (es, ← x .wave) begun-gap;
         upto = begun-upto;
         ticks = (let h : e ≤ cycle = rw (x .last) (ticks-small p cycle) in let l = x .small in omega arith);
         cycles = begun-cycle e (le-refl e);
@@ -171,30 +171,13 @@ advances t cycle {before} {after} {w} {t₁} {t₂} v h e₁ e₂ =
     }
 
 -- ---- a tick of the T pin
-abbrev pub standingAt : ℕ → Prescaler
-standingAt cycle = record { origin = record { 0 = cycle }; divisor = 0 }
-
-pub struck-ready : (t : Timer) (cycle : ℕ) {s : Setting} {m : Moving} → (Valid t) × (cycle < 2 ^ 62) → s ≡ settingOf t → m ≡ movingOf t → Ready s (standingAt cycle) (begunAt m 0 0) 1 0
-unfolding cycleAt
-struck-ready t cycle v es em =
-    record {
-      sound = rw (es, em) (valid-sound t (v .0));
-      gap = omega arith;
-      upto = omega arith;
-      ticks = omega arith;
-      cycles = omega (arith, v .1);
-      bytes = omega arith;
-    }
-
-pub strikes : (t : Timer) (cycle : ℕ) {s : Setting} {m : Moving} {x : Aside} {r : Timer} → Valid t → s ≡ settingOf t → m ≡ movingOf t → Made s (standingAt cycle) (begunAt m 0 0) x → r ≡ settle t (x .after .moving)
+pub strikes : (t : Timer) (cycle : ℕ) {s : Setting} {m : Moving} {x : Ticked} {r : Timer} → s ≡ settingOf t → m ≡ movingOf t → TickLogs (tick s m) cycle x → r ≡ settle t (x .moving)
     → Logs (struck t) cycle (record { timer = r; log = x .log })
-unfolding cycleAt struck
-strikes t cycle {s} {m} v es em h er =
-    let n : linear (s .wave) 0 m ≡ movingOf t = linear-none (s .wave) m (rw em (v .odometer)) ∙ em in
-    let k : cycleAt (standingAt cycle) 1 ≡ cycle = omega arith in
+unfolding struck
+strikes t cycle es em h er =
     record {
-      timer = er ∙ rw (h .moving, n, es);
-      bytes = h .bytes ∙ rw (n, es, k);
+      timer = er ∙ rw (h .moving, em, es);
+      bytes = h .bytes ∙ rw (em, es);
       size = h .size;
       len = h .len;
     }

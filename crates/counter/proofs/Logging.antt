@@ -1,22 +1,19 @@
 -- The log of a call that works no tick: a write, a capture, a reset.
 use Prim.Native.Nat.{ℕ, _≤_}
 use native.Mathlib.Omega.{arith}
-use native.Mathlib.Nat.{zero-add}
-use mathlib.Core.Path.{_≡_, sym, _∙_}
+use mathlib.Core.Path.{_≡_, _∙_}
 use mathlib.Core.Bool.{Bool, cond}
 use mathlib.Core.List.{List, []}
 use lib.Bits.{bitOr}
-use lib.ListN.{length, take}
-use Rattle.records.specs.declared.Entry.{Entry}
+use lib.ListN.{length}
 use Rattle.records.specs.declared.Log.{Log}
 use Rattle.records.specs.Records.{recordsOf}
-use Rattle.records.proofs.Records.{take-sets}
 use Rattle.tick.specs.declared.happenings.Events.{Events}
 use Rattle.tick.specs.declared.outputs.Outputs.{Outputs}
 use Rattle.tick.specs.declared.setting.Setting.{Setting}
 use Rattle.tick.specs.Outputs.{outsOf, Wrote, reapplied, strobed}
 use Rattle.tick.specs.Tick.{raised, flagEntry, flagLog}
-use Rattle.tick.proofs.Writes.{Put}
+use Rattle.tick.proofs.Writes.{Put, put-logs}
 use Rattle.tick.proofs.Ticks.{Flagged}
 use Rattle.counter.specs.declared.state.Timer.{Timer}
 use Rattle.counter.specs.Setting.{settingOf, movingOf}
@@ -30,14 +27,6 @@ pub logs-none : {t r : Timer} {log : Log} (cycle : ℕ) → r ≡ t → log .len
 unfolding recordsOf
 logs-none cycle e h = record { timer = e; bytes = rw h; size = rw h; len = omega arith }
 
--- records written from the start of a log of 110 bytes
-logs-put : {es : List Entry} {cycle : ℕ} {before : List ℕ} {to : ℕ} {after : List ℕ} → length before ≡ 110 → Put es cycle 0 before to after → to ≤ 110
-    → (take to after ≡ recordsOf cycle es) × (length (take to after) ≡ to)
-logs-put {es} {cycle} {before} {to} {after} n p h =
-    let z : to ≡ length (recordsOf cycle es) = p .next ∙ zero-add (length (recordsOf cycle es)) in
-    let e : take to after ≡ recordsOf cycle es = rw (z, p .area) (take-sets before (recordsOf cycle es) (omega arith)) in
-    (e, rw e (sym z))
-
 -- the drives reapplied where asked, then a force strobe
 pub logs-driven : (t : Timer) (again : Bool) (forces cycle : ℕ) {s : Setting} {e : Events} {before after : List ℕ} {r : Outputs}
     → s ≡ settingOf t
@@ -50,7 +39,7 @@ logs-driven t again forces cycle {s} {e} {before} {after} {r} es ee n w =
     let l : r .to ≤ 110 = omega (arith, w .1) in
     let p : Put (strobed s e (cond again (reapplied s (outsOf (movingOf t))) (outsOf (movingOf t))) .log) cycle 0 before (r .to) after
     = record { next = w .0 .to; area = w .0 .area } in
-    let k = logs-put n p l in
+    let k = put-logs n p l in
     record {
       timer = rw (w .0 .oc, w .0 .drives, es, ee);
       bytes = k .0 ∙ rw (es, ee);
@@ -71,7 +60,7 @@ unfolding captured
 logs-captured t cycle before {s} {e} {up} {to} {after} es ee eu ei n f =
     let l : to ≤ 110 = omega (arith, f .2) in
     let p : Put (flagLog s e up (bitOr (t .flags .tifr) up)) cycle 0 before to after = record { next = f .0; area = f .1 } in
-    let k = logs-put n p l in
+    let k = put-logs n p l in
     record {
       timer = rw (ei, eu, ee, es);
       bytes = k .0 ∙ rw (eu, ee, es);

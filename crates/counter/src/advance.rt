@@ -90,29 +90,18 @@ impl Timer {
         t
     }
 
-    // One tick that an edge of the T pin gives, with its records: the prescaler stands still at the edge's cycle.
+    // One tick that an edge of the T pin gives, with its records.
     pub fn tick(self, cycle: Cycle) -> Logged
-        requires { ⌜ (Valid self) × (cycle .0 < 2 ^ 62) ⌝ }
+        requires { ⌜ Valid self ⌝ }
         ensures { λ r. ⌜ Logs (struck self) (cycle .0) r ⌝ }
     {
         let mode = self.mode();
         let wave = self.wave_at(mode);
         let s = self.setting(mode, wave);
         let moving = self.moving();
-        let start = Progress {
-            moving,
-            gap: 0,
-            at: Ticks(0),
-            to: 0,
-        };
-        let p = Prescaler {
-            origin: cycle,
-            divisor: 0,
-        };
-        let a = start.aside(s, p);
-        let after = a.after;
-        let log = a.log;
-        let moved = after.moving;
+        let t = s.logged(moving, cycle);
+        let moved = t.moving;
+        let log = t.log;
         Logged {
             timer: self.settled(moved),
             log,

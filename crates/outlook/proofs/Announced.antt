@@ -3,14 +3,13 @@ use Prim.Native.Nat.{ℕ, _+_, _≤_, _<_, max}
 use native.Mathlib.Omega.{arith}
 use native.Mathlib.Nat.{add-mul}
 use mathlib.Core.Path.{_≡_, refl, sym, _∙_}
-use mathlib.Core.Bool.{Bool, true, false, cond, not, _&&_, true≢false, false≢true}
-use mathlib.Core.Logic.{_⊎_, inl, inr}
-use mathlib.Core.List.{List, [], _++_}
+use mathlib.Core.Bool.{Bool, true, false, cond, true≢false, false≢true}
+use mathlib.Core.Logic.{inl, inr}
+use mathlib.Core.List.{List}
 use lib.Dec.{eqb, leb, leb·zero}
-use lib.ListN.{length, take, drop}
+use lib.ListN.{length, drop}
 use lib.Seq.{take-append-seam}
-use borrow.Author.Tests.{leb-true, leb-false, eqb-true, eqb-false}
-use Rattle.records.specs.Records.{recordsOf}
+use borrow.Author.Tests.{leb-true, leb-false}
 use Rattle.wave.specs.Distance.{gap}
 use Rattle.time.specs.declared.units.Cycle.{Cycle}
 use Rattle.time.specs.declared.units.Prescaler.{Prescaler}
@@ -19,32 +18,32 @@ use Rattle.time.proofs.Clocks.{cycle-mono}
 use Rattle.tick.specs.Distance.{flagsAhead}
 use Rattle.tick.proofs.Choices.{cond-case, cond-all}
 use Rattle.passage.specs.Passage.{Run, ticks}
-use Rattle.counter.specs.declared.next.Next.the-variants.{At}
+use Rattle.counter.specs.declared.next.Next.the-variants.{At, Never}
 use Rattle.counter.specs.declared.state.Timer.{Timer}
 use Rattle.counter.specs.Halts.{latestTo, halting}
 use Rattle.counter.specs.Modes.{modeOf, waveOf, prescalerOf, runningOf}
-use Rattle.counter.specs.Next.{nextAt, nextOf}
-use Rattle.counter.specs.Passage.{due, start, passed, advanced, syncTo, syncOf}
+use Rattle.counter.specs.Next.{nextAt, nextFlags, nextOf}
+use Rattle.counter.specs.Passage.{Passed, due, start, passed, advanced, syncTo, syncOf}
 use Rattle.counter.specs.Setting.{settingAt, settingOf, movingOf}
 use Rattle.counter.specs.Valid.{Valid}
 use Rattle.counter.proofs.Clocks.{running-divides}
 use Rattle.counter.proofs.Keeps.{fresh-is-valid}
 use Rattle.counter.proofs.Runs.{start-kept}
-use Rattle.answers.specs.Answers.{Told}
+use Rattle.answers.specs.Answers.{Values, Told}
 use Rattle.answers.specs.Refusals.{isDue}
 use Rattle.timer.specs.declared.calls.Call.{Call}
 use Rattle.timer.specs.declared.calls.Call.the-variants as call
-use Rattle.timer.specs.Calls.{asks, works, before, worked, moved, performed, refusalOf, answered}
+use Rattle.timer.specs.Calls.{asks, works, says, before, worked, moved, performed, refusalOf, answered}
 use Rattle.timer.specs.Claims.{Request, told}
 use Rattle.timer.proofs.Accepted.{Accepted, told-all}
 use Rattle.timer.proofs.Keeps.{call-keeps, last-valid}
 use Rattle.timer.proofs.Progress.{event-due}
-use Rattle.timer.proofs.Quiet.{next-told, announces}
+use Rattle.timer.proofs.Quiet.{announces}
 use Rattle.timer.proofs.Timely.{timely}
-use Rattle.outlook.specs.Announced.{touches, Untouched, Waits, still, then, Raises, Announced}
+use Rattle.outlook.specs.Announced.{touches, Untouched, Waits, still, then, flagsOf, Raises, Stands, Says, Announced}
 use Rattle.outlook.proofs.Passing.{event-worked, passes-event}
 use Rattle.outlook.proofs.Same.{Same, same-trans, same-refl, next-after, sync-same, advance-same}
-use Rattle.outlook.proofs.Untouched.{work-same}
+use Rattle.outlook.proofs.Untouched.{latest-same, work-same}
 use Rattle.outlook.proofs.Flagged.{event-raised}
 
 -- ---- one call
@@ -190,16 +189,70 @@ module _ (t : Timer) (v : Valid t) (r : runningOf t ≡ true) where
       cond-case (λ (x : Told). nextAt t ≤ x .timer .clock .sync .0 → Raises t (nextAt t) (flagsAhead (settingOf t) (movingOf t)) x)
       (eqb (refusalOf t call.Advance cycle) 0) (λ e h. advance-raises cycle (length area) area h) (λ e h. let k = next-after t r (v .origin) in absurd (omega arith))
 
+-- ---- what an answer says of the next event
+same-next : {t x : Timer} → Same t x → nextOf x ≡ nextOf t
+unfolding nextOf
+same-next s = rw (s .running, s .next, s .flags)
+
+flags-next : (t : Timer) → nextFlags t ≡ flagsOf (nextOf t)
+unfolding nextFlags nextOf
+flags-next t = cond-flags (runningOf t)
+  where
+    cond-flags : (b : Bool) → cond b (flagsAhead (settingOf t) (movingOf t)) 0 ≡ flagsOf (cond b (At (record { 0 = nextAt t }) (flagsAhead (settingOf t) (movingOf t))) Never)
+    cond-flags true = refl
+    cond-flags false = refl
+
+work-says : (t : Timer) (c : Call) (cycle : ℕ) → Says (says t c) (nextOf (latestTo (works t c cycle .timer) cycle))
+unfolding says works
+work-says t call.Next cycle = sym (same-next (latest-same t cycle))
+work-says t call.Advance cycle = tt
+work-says t (call.Read address) cycle = tt
+work-says t (call.Peek address) cycle = tt
+work-says t (call.Write address value) cycle = tt
+work-says t call.Tifr cycle = tt
+work-says t call.Timsk cycle = tt
+work-says t (call.WriteTifr ones) cycle = tt
+work-says t (call.WriteTimsk mask) cycle = tt
+work-says t (call.Edge pin level) cycle = tt
+work-says t (call.Output level) cycle = tt
+work-says t (call.Route level) cycle = tt
+work-says t (call.Sleep mode) cycle = tt
+work-says t call.Wake cycle = tt
+work-says t (call.Reduce mask) cycle = tt
+work-says t (call.Tsm level) cycle = tt
+work-says t (call.Prescale mask) cycle = tt
+work-says t call.Reset cycle = tt
+
+told-says : (t : Timer) (q : Request) → let x = told ticks t q in Says (x .values) (nextOf (x .timer))
+unfolding answered performed worked moved
+told-says t q =
+    cond-all So (eqb (refusalOf t (q .call) (q .cycle)) 0)
+    (cond-all So (asks t (q .call) .advances) (cond-all (λ (v : Values). Says v (nextOf after)) (run .paused) (flags-next after) (flags-next after))
+    (cond-all So (leb _ (length (q .area))) (work-says _ (q .call) (q .cycle)) tt))
+    tt
+  where
+    So : Told → Type 0
+    So x = Says (x .values) (nextOf (x .timer))
+
+    run : Passed
+    run = advanced ticks t (q .cycle) (length (q .area))
+
+    after : Timer
+    after = run .timer
+
 -- ---- the claim
 stands-next : (t : Timer) (at : Cycle) (flags : ℕ) → runningOf t ≡ true → nextAt t ≡ at .0 → flagsAhead (settingOf t) (movingOf t) ≡ flags → nextOf t ≡ At at flags
 unfolding nextOf
 stands-next t at flags r n f = simp (r, n, f)
 
-pub announced : Announced
-announced c e qs cycle area at flags rs u h w =
-    let a = announces _ (next-told _ cycle area h) in
-    let k = waits-same (last-valid _ qs (fresh-is-valid c e)) (a .running) (sym (a .cycle)) w in
+event-stays : (t : Timer) → Valid t → (at : Cycle) (flags : ℕ) (qs : List Request) (u : Timer) → nextOf t ≡ At at flags → Waits (at .0) t qs u → Stands u at flags
+event-stays t v at flags qs u h w =
+    let a = announces t (sym h) in
+    let k = waits-same v (a .running) (sym (a .cycle)) w in
     let r = k .same .running ∙ a .running in
     let n = k .same .next ∙ sym (a .cycle) in
     let f = k .same .flags ∙ sym (a .raised) in
     record { next = stands-next u at flags r n f; raises = λ wanted room. rw (n, f) at (told-raises u (k .valid) r wanted room) }
+
+pub announced : Announced
+announced c e qs q = record { says = told-says _ q; stays = event-stays _ (call-keeps _ q (last-valid _ qs (fresh-is-valid c e))) }

@@ -102,7 +102,7 @@ unfolding runningOf heldOf
 awake t r = none-held (t .halts .asleep) (t .halts .reduced) (t .halts .tsm) (and-right (ltb 0 (divisorOf t)) (not (t .halts .asleep || t .halts .reduced || t .halts .tsm)) r)
 
 -- ---- the calls
-latest-same : (t : Timer) (cycle : ℕ) → Same t (latestTo t cycle)
+pub latest-same : (t : Timer) (cycle : ℕ) → Same t (latestTo t cycle)
 unfolding nextAt runningOf divisorOf heldOf settingAt waveOf modeOf
 latest-same t cycle = record { running = refl; next = refl; flags = refl }
 

@@ -13,13 +13,14 @@ use Rattle.wave.specs.Distance.{gap}
 use Rattle.tick.specs.Skip.{linear}
 use Rattle.tick.specs.Tick.{tick}
 use Rattle.passage.specs.Passage.{ticks}
-use Rattle.counter.specs.declared.next.Next.the-variants.{At}
+use Rattle.counter.specs.declared.next.Next.{Next}
+use Rattle.counter.specs.declared.next.Next.the-variants.{At, Never}
 use Rattle.counter.specs.declared.state.Timer.{Timer}
 use Rattle.counter.specs.Halts.{halting}
 use Rattle.counter.specs.Modes.{modeOf, waveOf}
 use Rattle.counter.specs.Next.{nextOf}
 use Rattle.counter.specs.Setting.{settingOf, movingOf}
-use Rattle.answers.specs.Answers.{event, Told}
+use Rattle.answers.specs.Answers.{Values, refused, none, byte, event, reached, paused, Told}
 use Rattle.timer.specs.declared.calls.Call.{Call}
 use Rattle.timer.specs.declared.calls.Call.the-variants as call
 use Rattle.timer.specs.Calls.{reduces, changes, prescales}
@@ -59,6 +60,11 @@ pub data Waits : ℕ → Timer → List Request → Timer → Type 0 where
 
 -- ---- what the event's tick raises
 
+-- the flags of a next event, 0 where there is none
+abbrev pub flagsOf : Next → ℕ
+flagsOf (At at flags) = flags
+flagsOf Never = 0
+
 -- the TIFR bits in the flag entries of a log: kind 1, the bits raised in its high byte (01, "The record area")
 unfoldable pub raisedIn : List Entry → List ℕ
 raisedIn [] = []
@@ -79,11 +85,24 @@ pub record Stands (t : Timer) (at : Cycle) (flags : ℕ) : Type 0 where
   pub next : nextOf t ≡ At at flags
   pub raises : (cycle : ℕ) (area : List ℕ) → let x = told ticks t (record { call = call.Advance; cycle = cycle; area = area }) in at .0 ≤ x .timer .clock .sync .0 → Raises t (at .0) flags x
 
--- Announced: of a timer, what next answers stays so through any calls that are turned away or are no register write, halt, prescaler reset or reset, until
--- the event's tick is worked; and that tick raises exactly the flags that were announced
+-- what an answer says of the next event: next all of it; an advance, done or paused, its flags, 0 where there is none (02, 2.2)
+abbrev pub Says : Values → Next → Type 0
+Says (event m) n = m ≡ n
+Says (reached flags) n = flags ≡ flagsOf n
+Says (paused cycle flags) n = flags ≡ flagsOf n
+Says refused n = Unit {0}
+Says none n = Unit {0}
+Says (byte v) n = Unit {0}
+
+-- what an answer says is so of the timer that the call leaves; and that timer's next event stays so through any calls that are turned away or are no register write,
+-- halt, prescaler reset or reset, until its tick is worked; and that tick raises exactly the flags that were announced
+pub record Announces (x : Told) : Type 0 where
+  pub says : Says (x .values) (nextOf (x .timer))
+  pub stays : (at : Cycle) (flags : ℕ) (qs : List Request) (u : Timer) → nextOf (x .timer) ≡ At at flags → Waits (at .0) (x .timer) qs u → Stands u at flags
+
+-- Announced: of a timer, every call
 abbrev pub AnnouncedOf : Timer → Type 0
-AnnouncedOf t = (cycle : ℕ) (area : List ℕ) (at : Cycle) (flags : ℕ) (rs : List Request) (u : Timer) →
-    told ticks t (record { call = call.Next; cycle = cycle; area = area }) .values ≡ event (At at flags) → Waits (at .0) t rs u → Stands u at flags
+AnnouncedOf t = (q : Request) → Announces (told ticks t q)
 
 -- after any list
 abbrev pub Announced : Type 0

@@ -5,7 +5,6 @@ use native.Mathlib.Nat.{le-refl}
 use mathlib.Core.Path.{_≡_, refl, sym, ap, _∙_}
 use mathlib.Core.Bool.{Bool, true, false, cond, _&&_}
 use mathlib.Core.List.{List, _++_}
-use mathlib.Core.Logic.{_⊎_, inl, inr, ⊎-elim}
 use lib.ListN.{length, take, drop, length-append}
 use lib.Seq.{sets, sets-eq, length-sets, length-take-le, take-at, drop-at, drop-drop}
 use lib.Dec.{leb, ltb}
@@ -13,16 +12,17 @@ use borrow.Author.Tests.{le-leb, lt-leb, leb-true, leb-false, ltb-true, lt-ltb}
 use Rattle.records.specs.Records.{recordsOf}
 use Rattle.time.specs.declared.units.Prescaler.{Prescaler}
 use Rattle.time.specs.Units.{cycleAt}
-use Rattle.wave.specs.Count.{falls, hits, atTop, atZero, rising, nextCount, counted, Turns}
+use Rattle.wave.specs.Count.{falls, hits, atTop, atZero, rising, nextCount, counted}
 use Rattle.wave.specs.Distance.{gap}
 use Rattle.time.proofs.Clocks.{cycle-mono}
 use Rattle.passage.specs.declared.Progress.{Progress}
 use Rattle.passage.specs.declared.Aside.{Aside}
 use Rattle.passage.specs.declared.Finished.{Finished}
 use Rattle.tick.specs.declared.tick.Ticked.{Ticked}
+use Rattle.tick.specs.declared.tick.Logged.{Logged}
 use Rattle.tick.specs.declared.setting.Moving.{Moving}
 use Rattle.tick.specs.declared.setting.Setting.{Setting}
-use Rattle.tick.specs.Tick.{eventsAt, tickBy, tick, Worked}
+use Rattle.tick.specs.Tick.{eventsAt, tickBy, tick, Worked, Logs}
 use Rattle.tick.specs.Skip.{linear}
 use Rattle.passage.specs.Passage.{odometerTo, Run, one, ticks, quiet, standing, Ready, Ran, Made, Finishes}
 use Rattle.tick.specs.Sound.{Sound}
@@ -54,15 +54,6 @@ module _ (s : Setting) (p : Prescaler) (fits : ℕ → Bool) where
   unfolding one
   one-stops r n f = simp (n, f)
 
-  -- it was done if the run has not stopped
-  one-was : (r q : Run) → r .paused ≡ false → q .paused ≡ false → q ≡ one s p fits r
-      → q ≡ record { moving = tick s (r .moving) .moving; at = r .at + 1; bytes = bytesAfter s p r; paused = false }
-  one-was r q n m h = go (fits (length (bytesAfter s p r))) refl
-    where
-      go : (b : Bool) → fits (length (bytesAfter s p r)) ≡ b → q ≡ record { moving = tick s (r .moving) .moving; at = r .at + 1; bytes = bytesAfter s p r; paused = false }
-      go true e = h ∙ one-done r n e
-      go false e = let z : false ≡ true = sym m ∙ ap (λ (x : Run). x .paused) (h ∙ one-stops r n e) in cc
-
   -- bytes only come
   ticks-grow : (n : ℕ) (r : Run) → length (r .bytes) ≤ length (ticks s p fits n r .bytes)
   unfolding ticks
@@ -84,6 +75,14 @@ module _ (area vs : List ℕ) (to : ℕ) (h : to + length vs ≤ length area) wh
   stored-drop : drop (to + length vs) (sets area to vs) ≡ drop (to + length vs) area
   stored-drop = ap (drop (to + length vs)) (sets-eq vs area to h) ∙ drop-at (take to area ++ vs) (drop (to + length vs) area) (to + length vs) stored-length
 
+-- ---- the quiet ticks before the next event, and then its tick
+module _ {s : Setting} {p : Prescaler} {b : Progress} {end room : ℕ} (r : Ready s p b end room) {near : Moving} (e : near ≡ linear (s .wave) (b .gap) (b .moving)) where
+  pub near-sound : Sound s near
+  near-sound = rw e (step-keeps s (b .gap) (b .moving) (r .sound) (let l = r .gap in omega arith))
+
+  pub event-sound : {m : Moving} → m ≡ tick s near .moving → Sound s m
+  event-sound n = rw n (tick-keeps s near near-sound)
+
 -- ---- what a loop keeps of the run from a on, now that it stands at b
 pub record Going (s : Setting) (p : Prescaler) (a : Progress) (end : ℕ) (before : List ℕ) (b : Progress) (area : List ℕ) : Type 0 where
   pub rest : ticks s p (within before) (end - b .at .0) (standing b area) ≡ runOf s p a end before
@@ -101,12 +100,6 @@ module _ {s : Setting} {p : Prescaler} {a : Progress} {end : ℕ} {before : List
 
   pub near-cycle : (k : ℕ) → k ≤ end → cycleAt p k < 2 ^ 64
   near-cycle k h = let c = cycle-mono p k end h in let u = g .ready .cycles in omega arith
-
-  pub near-sound : {near : Moving} → near ≡ linear (s .wave) (b .gap) (b .moving) → Sound s near
-  near-sound e = rw e (step-keeps s (b .gap) (b .moving) (g .ready .sound) (g .ready .gap))
-
-  pub event-sound : {near m : Moving} → near ≡ linear (s .wave) (b .gap) (b .moving) → m ≡ tick s near .moving → Sound s m
-  event-sound {near} e n = rw n (tick-keeps s near (near-sound e))
 
   pub aside-ready : b .gap < end - b .at .0 → Ready s p b (b .at .0 + (b .gap + 1)) (b .to)
   aside-ready h =
@@ -146,7 +139,7 @@ module _ {s : Setting} {p : Prescaler} {a : Progress} {end : ℕ} {before : List
       → at₁ ≡ b .at .0 + b .gap + 1
       → vs ≡ recordsOf (cycleAt p at₁) (tick s (linear (s .wave) (b .gap) (b .moving)) .log)
       → m ≡ tick s (linear (s .wave) (b .gap) (b .moving)) .moving
-      → gap₁ ≤ gap (s .wave) (m .counter) (m .ocr)
+      → gap₁ ≡ gap (s .wave) (m .counter) (m .ocr)
       → to₁ ≡ b .to + length vs
       → to₁ ≤ length area
       → area₁ ≡ sets area (b .to) vs
@@ -165,7 +158,7 @@ module _ {s : Setting} {p : Prescaler} {a : Progress} {end : ℕ} {before : List
         rest = rw (← n) (sym (ap (ticks s p (within before) (end - b .at .0 - suc (b .gap))) od) ∙ event-run h);
         left = rw (et, er) (stored-drop area vs (b .to) k ∙ sym (drop-drop (length vs) (b .to) area) ∙ ap (drop (length vs)) (g .left) ∙ drop-drop (length vs) (b .to) before);
         ready = record {
-          sound = event-sound refl em;
+          sound = event-sound y refl em;
           gap = eg;
           upto = omega arith;
           ticks = y .ticks;
@@ -190,7 +183,7 @@ module _ {s : Setting} {p : Prescaler} {a : Progress} {end : ℕ} {before : List
       → Going s p a end before (record { moving = w .moving; gap = gap₁; at = record { 0 = b .at .0 + b .gap + 1 }; to = w .to }) area₁
   turned {near} {stamp} {w} {gap₁} {area₁} h en es k eg =
       let k₁ : Worked (tick s (linear (s .wave) (b .gap) (b .moving))) (cycleAt p (b .at .0 + b .gap + 1)) (b .to) area w area₁ = rw (← en, ← es) k in
-      ticked _ (w .moving) gap₁ _ (w .to) area₁ (h .0) refl refl (k₁ .moving) (omega arith) (k₁ .to) (let z = k .most in omega arith) (k₁ .area)
+      ticked _ (w .moving) gap₁ _ (w .to) area₁ (h .0) refl refl (k₁ .moving) eg (k₁ .to) (let z = k .most in omega arith) (k₁ .area)
 
   -- ---- finish: its turns, and its ends
   -- the event's records were written
@@ -253,62 +246,35 @@ module _ {s : Setting} {p : Prescaler} {a : Progress} {end : ℕ} {before : List
         upto = le-refl end;
       }
 
--- ---- run
--- its loop stands where it began, or at or past the first event
-pub record First (a b : Progress) : Type 0 where
-  pub either : ((a .gap ≡ b .gap) × (a .at .0 ≡ b .at .0) × (a .to ≡ b .to)) ⊎ (a .at .0 + (a .gap + 1) ≤ b .at .0)
-
-pub begins-first : (a : Progress) → First a a
-begins-first a = record { either = inl (refl, refl, refl) }
-
-pub goes-first : {a b : Progress} {m : Moving} {gap₁ to₁ : ℕ} → First a b → First a (record { moving = m; gap = gap₁; at = record { 0 = b .at .0 + b .gap + 1 }; to = to₁ })
-goes-first f = record { either = inr (⊎-elim (λ w. omega arith) (λ w. omega arith) (f .either)) }
-
+-- ---- run: its loop's end
 pub ran : {s : Setting} {p : Prescaler} {a : Progress} {end : ℕ} {before : List ℕ} {b : Progress} {area : List ℕ}
-    → Going s p a end before b area → First a b → ltb (b .gap) (end - b .at .0) && leb 110 (length area - b .to) ≡ false
+    → Going s p a end before b area → ltb (b .gap) (end - b .at .0) && leb 110 (length area - b .to) ≡ false
     → Ran s p a end before b area
-ran {s} {p} {a} {end} {before} {b} {area} g f h =
+ran {s} {p} {a} {end} {before} {b} {area} g h =
     record {
       rest = g .rest;
       left = g .left;
       ready = g .ready;
-      goes = λ u v. ⊎-elim
-          (λ w. let l = g .long in
-          let n : b .gap < end - b .at .0 = omega arith in
-          let k = leb-false 110 (length area - b .to) (rw (lt-ltb (b .gap) (end - b .at .0) n) at h) in
-          omega arith)
-          (λ w. w)
-          (f .either);
+      ends = λ n. let l = g .long in let k = leb-false 110 (length area - b .to) (rw (lt-ltb (b .gap) (end - b .at .0) n) at h) in omega arith;
     }
 
--- ---- aside: run made one tick in an area of its own
-pub made : {s : Setting} {p : Prescaler} (a : Progress) {before : List ℕ} {b : Progress} {area : List ℕ}
-    → length before ≡ 110 → length area ≡ 110
-    → Ready s p a (a .at .0 + (a .gap + 1)) (a .to)
-    → Ran s p (record { moving = a .moving; gap = a .gap; at = a .at; to = 0 }) (a .at .0 + (a .gap + 1)) before b area
-    → Made s p a (record { after = b; log = record { bytes = area; len = b .to } })
-unfolding ticks
-made {s} {p} a {before} {b} {area} n l r h =
-    let begin : Progress = record { moving = a .moving; gap = a .gap; at = a .at; to = 0 } in
-    let end : ℕ = a .at .0 + (a .gap + 1) in
-    let ready : Ready s p begin end (length before) = record { sound = r .sound; gap = r .gap; upto = r .upto; ticks = r .ticks; cycles = r .cycles; bytes = omega arith } in
-    let u = h .ready .upto in
-    let v = h .goes (omega arith) (omega arith) in
-    let y = h .ready .bytes in
-    let z : a .at .0 + (a .gap + 1) - b .at .0 ≡ 0 = omega arith in
-    let z₁ : a .at .0 + (a .gap + 1) - a .at .0 - suc (a .gap) ≡ 0 = omega arith in
-    let c : a .at .0 + a .gap + 1 ≡ a .at .0 + (a .gap + 1) = omega arith in
-    let e₁ : standing b area ≡ runOf s p begin end before = rw z at (h .rest) in
-    let e₂ : one s p (within before) (nearTo s begin before (a .gap)) ≡ runOf s p begin end before = rw z₁ at (event-run (begins before ready) (omega arith)) in
-    let e = one-was s p (within before) (nearTo s begin before (a .gap)) (standing b area) refl refl (e₁ ∙ sym e₂) in
+-- ---- aside: the next event's tick, its records in a log
+pub made : {s : Setting} {p : Prescaler} {a : Progress} {end room : ℕ} {near : Moving} {stamp : ℕ} {w : Logged} {gap₁ : ℕ}
+    → Ready s p a end room
+    → near ≡ linear (s .wave) (a .gap) (a .moving)
+    → stamp ≡ cycleAt p (a .at .0 + (a .gap + 1))
+    → Logs (tick s near) stamp w
+    → gap₁ ≡ gap (s .wave) (w .moving .counter) (w .moving .ocr)
+    → Made s p a (record { after = record { moving = w .moving; gap = gap₁; at = record { 0 = a .at .0 + (a .gap + 1) }; to = w .log .len }; log = w .log })
+made r en es k eg =
     record {
-      moving = ap (λ (q : Run). q .moving) e;
-      at = omega arith;
-      gap = h .ready .gap;
-      sound = h .ready .sound;
-      bytes = rw (← c) (ap (λ (q : Run). q .bytes) e);
-      size = length-take-le (b .to) area (omega arith);
-      len = omega arith;
+      moving = k .moving ∙ rw en;
+      at = refl;
+      gap = eg;
+      sound = event-sound r en (k .moving);
+      bytes = k .bytes ∙ rw (es, en);
+      size = k .size;
+      len = k .len;
     }
 
 -- ---- work
@@ -357,7 +323,7 @@ lagging a m gap at to = record { moving = odometerTo m (counted (a .moving .coun
 -- what the loop keeps
 pub record Lags (s : Setting) (p : Prescaler) (a : Progress) (end : ℕ) (before : List ℕ) (m : Moving) (gap at to : ℕ) (area : List ℕ) : Type 0 where
   pub going : Going s p a end before (lagging a m gap at to) area
-  pub first : First a (lagging a m gap at to)
+  pub on : a .at .0 ≤ at
   pub begun : m .counter .odometer ≡ a .moving .counter .odometer
   pub fits : a .moving .counter .odometer < 2 ^ 64
 
@@ -365,20 +331,17 @@ pub lags-begin : {s : Setting} {p : Prescaler} {a : Progress} {end : ℕ} (befor
 lags-begin {s} {p} {a} {end} before r =
     let h = r .sound .steady .odometer in
     let z : counted (a .moving .counter .odometer) (a .at .0 - a .at .0) ≡ a .moving .counter .odometer = omega arith in
-    record { going = rw z (begins before r); first = rw z (begins-first a); begun = refl; fits = h }
+    record { going = rw z (begins before r); on = le-refl (a .at .0); begun = refl; fits = h }
 
 module _ {s : Setting} {p : Prescaler} {a : Progress} {end : ℕ} {before : List ℕ} {m : Moving} {gap₀ at to : ℕ} {area : List ℕ} (l : Lags s p a end before m gap₀ at to area) where
-  pub lags-on : a .at .0 ≤ at
-  lags-on = ⊎-elim (λ w. omega arith) (λ w. omega arith) (l .first .either)
-
   pub lags-sound : Sound s m
   lags-sound = dialled-sound s (lagging a m gap₀ at to .moving) (m .counter .odometer) (l .going .ready .sound) (let e = l .begun in let h = l .fits in omega arith)
 
-  pub lags-gap : gap₀ ≤ gap (s .wave) (m .counter) (m .ocr)
+  pub lags-gap : gap₀ ≡ gap (s .wave) (m .counter) (m .ocr)
   lags-gap = rw (gap-dialled s m (counted (a .moving .counter .odometer) (at - a .at .0))) at (l .going .ready .gap)
 
   pub lags-near : {near : Moving} → near ≡ linear (s .wave) gap₀ m → Sound s near
-  lags-near e = rw e (step-keeps s gap₀ m lags-sound lags-gap)
+  lags-near e = rw e (step-keeps s gap₀ m lags-sound (let h = lags-gap in omega arith))
 
   pub lags-event : {near k : Moving} → near ≡ linear (s .wave) gap₀ m → k ≡ tick s near .moving → Sound s k
   lags-event {near} e n = rw n (tick-keeps s near (lags-near e))
@@ -392,7 +355,7 @@ module _ {s : Setting} {p : Prescaler} {a : Progress} {end : ℕ} {before : List
       → gap₁ ≡ gap (s .wave) (next .counter) (next .ocr)
       → Lags s p a end before next gap₁ (at + gap₀ + 1) (w .to) area₁
   lags-turn {near} {next} {stamp} {w} {gap₁} {area₁} h en es k ex eg =
-      let o = lags-on in
+      let o = l .on in
       let real : ℕ = counted (a .moving .counter .odometer) (at - a .at .0) in
       let near₁ : Moving = odometerTo near (counted real gap₀) in
       let w₁ : Ticked = record { moving = odometerTo (w .moving) (counted (counted real gap₀) 1); to = w .to } in
@@ -401,4 +364,4 @@ module _ {s : Setting} {p : Prescaler} {a : Progress} {end : ℕ} {before : List
       let g₁ : gap₁ ≡ gap (s .wave) (w .moving .counter) (w .moving .ocr) = eg ∙ rw ex (gap-dialled s (w .moving) (a .moving .counter .odometer)) in
       let t = turned (l .going) h (rw en (sym (step-dialled s m real gap₀))) es k₁ (g₁ ∙ sym (gap-dialled s (w .moving) (counted (counted real gap₀) 1))) in
       let z : counted (a .moving .counter .odometer) (at + gap₀ + 1 - a .at .0) ≡ counted (counted real gap₀) 1 = omega arith in
-      record { going = rw (ex, z) t; first = goes-first (l .first); begun = ap (λ (q : Moving). q .counter .odometer) ex; fits = l .fits }
+      record { going = rw (ex, z) t; on = omega arith; begun = ap (λ (q : Moving). q .counter .odometer) ex; fits = l .fits }

@@ -78,27 +78,27 @@ odometerTo m odometer = record { counter = record { count = m .counter .count; d
 abbrev pub standing : Progress → List ℕ → Run
 standing r area = record { moving = r .moving; at = r .at .0; bytes = take (r .to) area; paused = false }
 
--- a run that can go on to a tick: quiet ticks do lie ahead, and numbers and bytes fit
+-- a run that can go on to a tick: its gap is that of its next event, and numbers and bytes fit
 pub record Ready (s : Setting) (p : Prescaler) (r : Progress) (end room : ℕ) : Type 0 where
   pub sound : Sound s (r .moving)
-  pub gap : r .gap ≤ gap (s .wave) (r .moving .counter) (r .moving .ocr)
+  pub gap : r .gap ≡ gap (s .wave) (r .moving .counter) (r .moving .ocr)
   pub upto : r .at .0 ≤ end
   pub ticks : end < 2 ^ 64
   pub cycles : cycleAt p end < 2 ^ 64
   pub bytes : r .to ≤ room
 
--- a run on its way: what is still to come of it is what was, and it goes at least to its event if any tick's records fit
+-- a run on its way: what is still to come of it is what was; with an event left before the end, fewer than 110 bytes are
 pub record Ran (s : Setting) (p : Prescaler) (a : Progress) (end : ℕ) (before : List ℕ) (b : Progress) (after : List ℕ) : Type 0 where
   pub rest : ticks s p (λ k. leb k (length before)) (end - b .at .0) (standing b after) ≡ ticks s p (λ k. leb k (length before)) (end - a .at .0) (standing a before)
   pub left : drop (b .to) after ≡ drop (b .to) before
   pub ready : Ready s p b end (length before)
-  pub goes : a .gap < end - a .at .0 → a .to + 110 ≤ length before → a .at .0 + (a .gap + 1) ≤ b .at .0
+  pub ends : b .gap < end - b .at .0 → length before < b .to + 110
 
 -- an event's tick made aside
 pub record Made (s : Setting) (p : Prescaler) (a : Progress) (r : Aside) : Type 0 where
   pub moving : r .after .moving ≡ tick s (linear (s .wave) (a .gap) (a .moving)) .moving
   pub at : r .after .at .0 ≡ a .at .0 + (a .gap + 1)
-  pub gap : r .after .gap ≤ gap (s .wave) (r .after .moving .counter) (r .after .moving .ocr)
+  pub gap : r .after .gap ≡ gap (s .wave) (r .after .moving .counter) (r .after .moving .ocr)
   pub sound : Sound s (r .after .moving)
   pub bytes : take (r .log .len) (r .log .bytes) ≡ recordsOf (cycleAt p (a .at .0 + (a .gap + 1))) (tick s (linear (s .wave) (a .gap) (a .moving)) .log)
   pub size : length (take (r .log .len) (r .log .bytes)) ≡ r .log .len

@@ -12,7 +12,7 @@ ghost use lib.ListN.{length};
 ghost use Rattle.wave.specs.Count.{Turns};
 ghost use Rattle.passage.specs.Passage.{odometerTo, Ready, Ran, Made, Finishes};
 
-// Where a run stands: what moved, quiet ticks that lie ahead, the number of its last tick, and the place of the next record.
+// Where a run stands: what moved, the quiet ticks before its next event, the number of its last tick, and the place of the next record.
 pub struct Progress {
     pub moving: Moving,
     pub gap: u32,
@@ -86,19 +86,21 @@ impl Progress {
         requires { ⌜ Ready s p self (self .at .0 + (self .gap + 1)) (self .to) ⌝ }
         ensures { λ r. ⌜ Made s p self r ⌝ }
     {
-        let mut bytes = [0u8; 110];
-        let at = self.at;
-        let moving = self.moving;
-        let begin = Progress {
+        let wave = s.wave;
+        let last = self.at;
+        let m = self.moving;
+        let near = m.skip(wave, self.gap);
+        let tick = last.0 + ((self.gap as u64) + 1);
+        let t = s.logged(near, p.cycle(Ticks(tick)));
+        let moving = t.moving;
+        let log = t.log;
+        let counter = moving.counter;
+        let ocr = moving.ocr;
+        let after = Progress {
             moving,
-            gap: self.gap,
-            at,
-            to: 0,
-        };
-        let after = begin.run(s, Ticks(at.0 + ((self.gap as u64) + 1)), p, &mut bytes);
-        let log = Log {
-            bytes,
-            len: after.to,
+            gap: wave.gap(counter, ocr),
+            at: Ticks(tick),
+            to: log.len,
         };
         Aside { after, log }
     }

@@ -1,5 +1,5 @@
 -- A tick of the T pin, of what is kept of a timer: no event is to come of such a clock, before and after.
-use Prim.Native.Nat.{ℕ, _+_, _%_, _≤_, _<_, _^_}
+use Prim.Native.Nat.{ℕ, _+_, _%_, _≤_}
 use native.Mathlib.Omega.{arith}
 use mathlib.Core.Bool.{Bool, true, false, cond, not, _&&_, _||_, true≢false}
 use mathlib.Core.List.{List}
@@ -90,7 +90,7 @@ module _ (h : Held) (q : Asked) (l : LeftFor h (callOf q) (q .cycle)) (low : 9 �
   tick-waits = stands-still (h .timer) (q .value) (and-right (isPin (h .timer .config .t) (q .pin)) _ ticked)
 
   -- what the tick asks
-  pub tick-asks : Kept h → {u : Timer} → u ≡ syncTo (h .timer) (q .cycle) → (Valid u) × (q .cycle < 2 ^ 62)
+  pub tick-asks : Kept h → {u : Timer} → u ≡ syncTo (h .timer) (q .cycle) → Valid u
   tick-asks k e = tick-asked (h .timer) (tick-made .call) (q .cycle) (k .valid) (unrefused k tick-made) e
 
 -- ---- what is kept

@@ -3,12 +3,13 @@ use Prim.Native.Nat.{ℕ, suc, _+_, _-_, _*_, _/_, _%_, _≤_, _<_, _^_}
 use native.Mathlib.Omega.{arith}
 use native.Mathlib.Nat.{div-lt-iff-lt-mul, div-add-mod, mul-add, mul-suc, add-mul-div-left, mod-lt, mod-add-mod, mod-eq-of-lt, add-mul-mod-self-right}
 use native.Mathlib.Numerals.{add-one}
-use mathlib.Core.Path.{_≡_, refl, sym, ap, _∙_}
-use mathlib.Core.Bool.{Bool, true, false, not, _&&_, false≢true, true≢false}
+use mathlib.Core.Path.{_≡_, refl, sym, ap, subst, _∙_}
+use mathlib.Core.Bool.{Bool, true, false, cond, not, _&&_, false≢true, true≢false}
 use mathlib.Core.List.{List}
 use mathlib.Core.Logic.{_⊎_, inl, inr, ⊎-elim}
 use lib.Dec.{eqb, ltb}
-use borrow.Author.Tests.{eqb-true, eqb-false}
+use lib.IntN.{ℤ, pos, negℤ}
+use borrow.Author.Tests.{eqb-true, eqb-false, ltb-true, ltb-false}
 use Rattle.time.specs.declared.units.Prescaler.{Prescaler}
 use Rattle.time.specs.Units.{ticksAt}
 use Rattle.time.specs.Halts.{holding}
@@ -27,8 +28,11 @@ use Rattle.timer.specs.Calls.{edgeCaptures, outputCaptures, asks, works, before
 use Rattle.timer.specs.Claims.{Request, told, last}
 use Rattle.timer.proofs.Timely.{timely}
 use Rattle.timer.proofs.Keeps.{last-valid}
-use Rattle.shift.specs.Claims.{capturing, Captures, Later, Late}
+use Rattle.shift.specs.Shift.{apart, between, by, valuesAt}
+use Rattle.shift.specs.Claims.{capturing, Captures, Later, Late, MovedBy, Shifted}
 use Rattle.shift.proofs.Following.{Follows, told-ends, before-follows, list-follows}
+use Rattle.shift.proofs.Signs.{between-is}
+use Rattle.shift.proofs.Refusals.{accepted-by}
 
 -- ---- ticks between two cycles
 sum-div : (a e n : ℕ) → 0 < n → (a + e) / n ≡ (a % n + e % n) / n + (a / n + e / n)
@@ -76,6 +80,17 @@ round-later : (base j k n m x y : ℕ) → x ≡ (base + j) % suc m → y ≡ (b
 round-later base j k n m x y e f h =
     let q : base + k ≡ base + j + n = omega arith in
     f ∙ (ap (λ (z : ℕ). z % suc m) q ∙ (sym (mod-add-mod (base + j) (suc m) n) ∙ rw (e, add-one m)))
+
+-- by a signed number
+round-between : (base j k m x y : ℕ) → x ≡ (base + j) % suc m → y ≡ (base + k) % suc m → MovedBy (m + 1) (between j k) x y
+round-between base j k m x y e f = subst (λ (z : ℤ). MovedBy (m + 1) z x y) (between-is j k) (go (ltb k j) refl)
+  where
+    go : (b : Bool) → ltb k j ≡ b → MovedBy (m + 1) (cond b (negℤ (pos (apart j k))) (pos (apart j k))) x y
+    go true h =
+        let l = ltb-true k j h in
+        let q : apart j k ≡ suc (j - k - 1) = omega arith in
+        rw q (round-later base k j (suc (j - k - 1)) m y x f e (omega arith))
+    go false h = let l = ltb-false k j h in round-later base j k (apart j k) m x y e f (omega arith)
 
 -- ---- the value captured
 module _ (t : Timer) (base : ℕ) (divides : 0 < divisorOf t) (normal : kindAt (t .config .wide) (modeOf t) ≡ 0) where
@@ -191,5 +206,15 @@ module _ (t : Timer) (v : Valid t) (run : runningOf t ≡ true) (normal : kindAt
           → told ticks (last ticks t ys) b .timer .registers .icr ≡ (told ticks (last ticks t xs) a .timer .registers .icr + n) % (maxAt (t .config .wide) + 1)
       by n z = round-later base (ticksAt (prescalerOf t) (a .cycle)) (ticksAt (prescalerOf t) (b .cycle)) n (maxAt (t .config .wide)) _ _ (x .icr) (y .icr) (rw h z)
 
+  -- the signed shift, of two captures whichever comes first
+  moved-by : (xs ys : List Request) (a b : Request) (z : ℤ) → Captures t xs a → Captures t ys b → valuesAt t (a .cycle) (b .cycle) ≡ by z
+      → MovedBy (maxAt (t .config .wide) + 1) z (told ticks (last ticks t xs) a .timer .registers .icr) (told ticks (last ticks t ys) b .timer .registers .icr)
+  moved-by xs ys a b z ca cb h =
+      let q : between (ticksAt (prescalerOf t) (a .cycle)) (ticksAt (prescalerOf t) (b .cycle)) ≡ z = rw run at (accepted-by t (a .cycle) (b .cycle) z h .1) in
+      rw (← q) (round-between base _ _ (maxAt (t .config .wide)) _ _ (value xs a ca .icr) (value ys b cb .icr))
+
 pub late : Late
 late c e qs run normal = later _ (last-valid _ qs (fresh-is-valid c e)) run normal
+
+pub shifted : Shifted
+shifted c e qs run normal = moved-by _ (last-valid _ qs (fresh-is-valid c e)) run normal

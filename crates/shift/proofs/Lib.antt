@@ -4,3 +4,4 @@ pub mod Late
 pub mod Signs
 pub mod Refusals
 pub mod Within
+pub mod Determined

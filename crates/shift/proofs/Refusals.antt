@@ -4,9 +4,9 @@ use native.Mathlib.Omega.{arith}
 use native.Mathlib.Nat.{add-mul, mul-comm, div-add-mod, mod-lt, div-lt-iff-lt-mul}
 use mathlib.Core.Path.{_≡_, refl, ap, _∙_}
 use mathlib.Core.Bool.{Bool, true, false, cond, _&&_}
-use lib.Dec.{leb, ltb, eqb·suc-zero}
-use lib.IntN.{ℤ}
-use borrow.Author.Tests.{ltb-false, leb-true, leb-false, eq-eqb}
+use lib.Dec.{eqb, leb, ltb, eqb·suc-zero}
+use lib.IntN.{ℤ, pos}
+use borrow.Author.Tests.{ltb-false, leb-true, leb-false, eqb-true, eq-eqb}
 use Rattle.time.specs.declared.units.Prescaler.{Prescaler}
 use Rattle.time.specs.Units.{lateAt, ticksAt}
 use Rattle.time.proofs.Clocks.{ticks-mono}
@@ -15,8 +15,7 @@ use Rattle.counter.specs.Modes.{divisorOf, prescalerOf, runningOf}
 use Rattle.counter.specs.Valid.{Valid}
 use Rattle.counter.proofs.Clocks.{running-divides}
 use Rattle.answers.specs.Refusals.{late}
-use Rattle.shift.specs.declared.Moved.the-variants.{By}
-use Rattle.shift.specs.Shift.{apart, between, farOf, foremost, refusalOf, shiftOf}
+use Rattle.shift.specs.Shift.{apart, between, farOf, foremost, refusalOf, refused, by, valuesAt}
 
 -- none of three is none of each
 pub foremost-none : (a b c : ℕ) → foremost a b c ≡ 0 → (a ≡ 0) × ((b ≡ 0) × (c ≡ 0))
@@ -79,11 +78,24 @@ module _ (t : Timer) (first second : ℕ) (v : Valid t) (e : refusalOf t first s
   unfolding farOf
   ticks-apart r = apart-ticks (prescalerOf t) first second (running-divides t r) first-since second-since (near-by (runningOf t) (32767 * divisorOf t) (apart first second) r (parts .1 .1))
 
+-- an answer with a shift is not refused, and the shift is the definition's
+pub accepted-by : (t : Timer) (first second : ℕ) (z : ℤ) → valuesAt t first second ≡ by z
+    → (refusalOf t first second ≡ 0) × (cond (runningOf t) (between (ticksAt (prescalerOf t) first) (ticksAt (prescalerOf t) second)) (pos 0) ≡ z)
+unfolding valuesAt
+accepted-by t first second z = go (eqb (refusalOf t first second) 0) refl
+  where
+    w : ℤ
+    w = cond (runningOf t) (between (ticksAt (prescalerOf t) first) (ticksAt (prescalerOf t) second)) (pos 0)
+
+    go : (b : Bool) → eqb (refusalOf t first second) 0 ≡ b → cond b (by w) refused ≡ by z → (refusalOf t first second ≡ 0) × (w ≡ z)
+    go true e h = (eqb-true _ _ e, (cc))
+    go false e h = absurd (let k : _≡_ {A = ℕ} 0 1 = cc in omega arith)
+
 -- the shift of a timer that runs, from the parts that the code computes
 pub shifted-is : (t : Timer) (first second : ℕ) → refusalOf t first second ≡ 0 → runningOf t ≡ true → (p : Prescaler) → p ≡ prescalerOf t
-    → (a b : ℕ) → a ≡ ticksAt p first → b ≡ ticksAt p second → (z : ℤ) → z ≡ between a b → By z ≡ shiftOf t first second
-unfolding shiftOf
+    → (a b : ℕ) → a ≡ ticksAt p first → b ≡ ticksAt p second → (z : ℤ) → z ≡ between a b → by z ≡ valuesAt t first second
+unfolding valuesAt
 shifted-is t first second e r p q a b x y z h =
     let f = x ∙ ap (λ (k : Prescaler). ticksAt k first) q in
     let g = y ∙ ap (λ (k : Prescaler). ticksAt k second) q in
-    simp (eq-eqb _ _ e, r) (ap By (h ∙ (ap (λ (n : ℕ). between n b) f ∙ ap (λ (n : ℕ). between (ticksAt (prescalerOf t) first) n) g)))
+    simp (eq-eqb _ _ e, r) (ap by (h ∙ (ap (λ (n : ℕ). between n b) f ∙ ap (λ (n : ℕ). between (ticksAt (prescalerOf t) first) n) g)))

@@ -1,10 +1,10 @@
 -- What is claimed of a late edge (02, 2.9). Proofs stand apart, in proofs/.
-use Prim.Native.Nat.{ℕ, _+_, _/_, _%_, _≤_}
+use Prim.Native.Nat.{ℕ, suc, _+_, _/_, _%_, _≤_}
 use mathlib.Core.Bool.{Bool, true, false}
 use mathlib.Core.List.{List, [], _∷_}
 use mathlib.Core.Logic.{_⊎_}
 use mathlib.Core.Path.{_≡_}
-use lib.IntN.{ℤ, natAbs}
+use lib.IntN.{ℤ, pos, negsuc, natAbs}
 use Rattle.config.specs.declared.Config.{Config}
 use Rattle.config.specs.Config.{accepted}
 use Rattle.wave.specs.Kinds.{N}
@@ -18,8 +18,7 @@ use Rattle.timer.specs.declared.calls.Call.the-variants as call
 use Rattle.timer.specs.Calls.{edgeCaptures, outputCaptures}
 use Rattle.timer.specs.Claims.{Request, told, last}
 use Rattle.outlook.specs.Announced.{touches}
-use Rattle.shift.specs.declared.Moved.the-variants.{By}
-use Rattle.shift.specs.Shift.{shiftOf}
+use Rattle.shift.specs.Shift.{by, valuesAt}
 
 -- through a list no call that touches the next event is accepted: none is a register write, a halt, the own prescaler's reset or a reset (02, 2.9)
 unfoldable pub Undisturbed : Timer → List Request → Type 0
@@ -69,6 +68,18 @@ Late = (c : Config) → accepted c ≡ true → (qs : List Request) → let t = 
     → (xs ys : List Request) (a b : Request) (e : ℕ) → Captures t xs a → Captures t ys b → b .cycle ≡ a .cycle + e
     → Later (maxAt (t .config .wide) + 1) (divisorOf t) e (captured t xs a) (captured t ys b)
 
+-- a value moved by a signed number of ticks, in a round of values: on by n, or back by n, so that the first is n on from it
+abbrev pub MovedBy : ℕ → ℤ → ℕ → ℕ → Type 0
+MovedBy round (pos n) first second = second ≡ (first + n) % round
+MovedBy round (negsuc n) first second = first ≡ (second + suc n) % round
+
+-- Shifted: of two such runs, whichever captures earlier, the value captured at the second cycle is that captured at the first plus the signed shift, modulo MAX + 1
+abbrev pub Shifted : Type 0
+Shifted = (c : Config) → accepted c ≡ true → (qs : List Request) → let t = last ticks (freshOf c) qs in
+    runningOf t ≡ true → kindAt (t .config .wide) (modeOf t) ≡ N
+    → (xs ys : List Request) (a b : Request) (z : ℤ) → Captures t xs a → Captures t ys b → valuesAt t (a .cycle) (b .cycle) ≡ by z
+    → MovedBy (maxAt (t .config .wide) + 1) z (captured t xs a) (captured t ys b)
+
 -- Within: the signed shift lies from −32767 to 32767 (02, 2.9: from −32768 to 32767)
 abbrev pub Within : Type 0
-Within = (t : Timer) → Valid t → (first second : ℕ) (z : ℤ) → shiftOf t first second ≡ By z → natAbs z ≤ 32767
+Within = (t : Timer) → Valid t → (first second : ℕ) (z : ℤ) → valuesAt t first second ≡ by z → natAbs z ≤ 32767

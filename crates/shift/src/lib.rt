@@ -9,7 +9,7 @@ ghost use mathlib.Core.Path.{_≡_};
 ghost use mathlib.Core.Bool.{cond};
 ghost use lib.IntN.{pos, negℤ};
 ghost use Rattle.counter.specs.Valid.{Valid};
-ghost use Rattle.shift.specs.Shift.{apart, between, farOf, foremost, refusalOf, shiftOf};
+ghost use Rattle.shift.specs.Shift.{apart, between, farOf, foremost, refusalOf, Answers};
 
 // A refusal's number, or the tick number of the second edge less that of the first.
 pub enum Moved {
@@ -77,7 +77,7 @@ fn refusal(t: Timer, first: Cycle, second: Cycle) -> u8
 // Yields how many ticks later the second edge is captured than the first; 0 where the counter does not run.
 pub fn shift(t: Timer, first: Cycle, second: Cycle) -> Moved
     requires { ⌜ Valid t ⌝ }
-    ensures { λ r. ⌜ r ≡ shiftOf t (first .0) (second .0) ⌝ }
+    ensures { λ r. ⌜ Answers t (first .0) (second .0) r ⌝ }
 {
     let n = refusal(t, first, second);
     if n != 0 {

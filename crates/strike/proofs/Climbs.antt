@@ -50,7 +50,7 @@ module _ {s : Setting} {p : Prescaler} {d : ℤ} {o first : ℕ} {r : Rise} (k :
       let b = begun-by in
       record {
         sound = k .sound;
-        gap = (let e = k .gap in omega arith);
+        gap = k .gap;
         upto = omega arith;
         ticks = ticks-most p cycle (omega arith);
         cycles = (let c = tick-before p cycle (omega arith) in omega arith);
@@ -245,7 +245,7 @@ module _ {s : Setting} {p : Prescaler} {d : ℤ} {o first : ℕ} {a : Rise} {bef
         record {
           moving = w .moving;
           at = w .at;
-          gap = (let g = w .known .gap in omega arith);
+          gap = w .known .gap;
           sound = w .known .sound;
           bytes = made-bytes ∙ ap (λ (x : ℕ). recordsOf x (eventIn s p d o first a .log)) (due-cycle k some ∙ ap (cycleAt p) e);
           size = length-take-le (b .to) area (omega arith);

@@ -17,12 +17,13 @@ use Rattle.wave.specs.Count.{topOf, nextCount, nextDirection, counted, Turns}
 use Rattle.wave.proofs.Signs.{turn-back}
 use Rattle.tick.specs.declared.happenings.Events.{Events}
 use Rattle.tick.specs.declared.outputs.Outputs.{Outputs}
+use Rattle.tick.specs.declared.tick.Ticked.{Ticked}
 use Rattle.tick.specs.declared.setting.Moving.{Moving}
 use Rattle.tick.specs.declared.setting.Setting.{Setting}
 use Rattle.tick.specs.Outputs.{outputs, outsOf, Wrote}
-use Rattle.tick.specs.Tick.{eventsAt, eventsOf, raised, raises, flagEntry, triggerEntry, flagLogOf, flagLog, tickBy, tick, Worked}
+use Rattle.tick.specs.Tick.{eventsAt, eventsOf, raised, raises, flagEntry, triggerEntry, flagLogOf, flagLog, Step, tickBy, tick, Worked, Logs}
 use Rattle.tick.proofs.Still.{next-turns}
-use Rattle.tick.proofs.Writes.{Put, put-none, put-one, put-then}
+use Rattle.tick.proofs.Writes.{Put, put-none, put-one, put-then, put-logs}
 
 -- what `also` promises
 abbrev pub Also : ℕ → ℕ → List ℕ → Bool → Entry → ℕ → List ℕ → Type 0
@@ -101,3 +102,10 @@ module _ (s : Setting) (m : Moving) (e : Events) (cycle at : ℕ) (l : List ℕ)
         area = p .area;
         most = omega (arith, w .1, f .2);
       })
+
+-- a tick whose records went into a log
+pub tick-logged : {s : Step} {cycle : ℕ} {before : List ℕ} {r : Ticked} {after : List ℕ} → length before ≡ 110 → Worked s cycle 0 before r after
+    → Logs s cycle (record { moving = r .moving; log = record { bytes = after; len = r .to } })
+tick-logged n w =
+    let k = put-logs n (record { next = w .to; area = w .area }) (w .most) in
+    record { moving = w .moving; bytes = k .0; size = k .1; len = w .most }

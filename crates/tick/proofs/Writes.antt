@@ -1,16 +1,16 @@
 -- Records written one after the other, and outputs that only add to their log.
-use Prim.Native.Nat.{ℕ, _+_}
+use Prim.Native.Nat.{ℕ, _+_, _≤_}
 use native.Mathlib.Omega.{arith}
-use native.Mathlib.Nat.{add-zero}
+use native.Mathlib.Nat.{add-zero, zero-add}
 use mathlib.Core.Path.{_≡_, refl, sym, ap, subst, _∙_}
 use mathlib.Core.Bool.{Bool, true, false, cond, _&&_, _||_, true≢false}
 use mathlib.Core.List.{List, [], _∷_, _++_, append-nil, append-assoc}
-use lib.ListN.{length, getD, set, length-append}
+use lib.ListN.{length, getD, set, take, length-append}
 use lib.Seq.{sets}
 use lib.Dec.{eqb, leb}
 use Rattle.records.specs.declared.Entry.{Entry}
 use Rattle.records.specs.Records.{recordOf, recordsOf}
-use Rattle.records.proofs.Records.{record-length, records-one, records-append, records-then}
+use Rattle.records.proofs.Records.{record-length, records-one, records-append, records-then, take-sets}
 use Rattle.config.specs.declared.Wire.{Wire}
 use Rattle.wave.specs.Kinds.{C}
 use Rattle.tick.specs.declared.happenings.Events.{Events}
@@ -42,6 +42,14 @@ put-then {ds} {es} {cycle} {at} {l = l} p q =
       next = omega (arith, p .next, q .next);
       area = q .area ∙ rw (p .area, p .next) (records-then l at cycle ds es);
     }
+
+-- from the start of a log of 110 bytes
+pub put-logs : {es : List Entry} {cycle : ℕ} {before : List ℕ} {to : ℕ} {after : List ℕ} → length before ≡ 110 → Put es cycle 0 before to after → to ≤ 110
+    → (take to after ≡ recordsOf cycle es) × (length (take to after) ≡ to)
+put-logs {es} {cycle} {before} {to} {after} n p h =
+    let z : to ≡ length (recordsOf cycle es) = p .next ∙ zero-add (length (recordsOf cycle es)) in
+    let e : take to after ≡ recordsOf cycle es = rw (z, p .area) (take-sets before (recordsOf cycle es) (omega arith)) in
+    (e, rw e (sym z))
 
 -- outputs with entries before their log
 abbrev pub after : List Entry → Outs → Outs

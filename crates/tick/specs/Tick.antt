@@ -4,7 +4,7 @@ use Prim.Native.Nat.{ℕ, _+_, _*_, _≤_}
 use mathlib.Core.Path.{_≡_}
 use mathlib.Core.Bool.{Bool, false, cond, not, _&&_, _||_}
 use mathlib.Core.List.{List, _++_}
-use lib.ListN.{length, getD}
+use lib.ListN.{length, getD, take}
 use lib.Seq.{sets}
 use lib.Dec.{eqb}
 use lib.Bits.{bitOr, bitAnd}
@@ -14,6 +14,7 @@ use Rattle.wave.specs.Kinds.{F, I}
 use Rattle.wave.specs.Count.{topOf, hits, overflows, loads, nextCount, nextDirection, counted, atTop, atZero, rising}
 use Rattle.tick.specs.declared.happenings.Events.{Events}
 use Rattle.tick.specs.declared.tick.Ticked.{Ticked}
+use Rattle.tick.specs.declared.tick.Logged.{Logged}
 use Rattle.tick.specs.declared.setting.Moving.{Moving}
 use Rattle.tick.specs.declared.setting.Setting.{Setting}
 use Rattle.tick.specs.Outputs.{bit, outputs, outsOf}
@@ -112,3 +113,10 @@ pub record Worked (s : Step) (cycle at : ℕ) (before : List ℕ) (r : Ticked) (
   pub to : r .to ≡ at + length (recordsOf cycle (s .log))
   pub area : after ≡ sets before at (recordsOf cycle (s .log))
   pub most : r .to ≤ at + 110
+
+-- or in a log of their own
+pub record Logs (s : Step) (cycle : ℕ) (r : Logged) : Type 0 where
+  pub moving : r .moving ≡ s .moving
+  pub bytes : take (r .log .len) (r .log .bytes) ≡ recordsOf cycle (s .log)
+  pub size : length (take (r .log .len) (r .log .bytes)) ≡ r .log .len
+  pub len : r .log .len ≤ 110

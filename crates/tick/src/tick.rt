@@ -3,6 +3,7 @@
 use crate::flags::put_flags;
 use crate::setting::Moving;
 use crate::setting::Setting;
+use records::Log;
 use time::units::Cycle;
 use wave::count::Counter;
 use wave::count::counted;
@@ -10,13 +11,19 @@ ghost use Prim.Native.Nat.{_+_, _≤_};
 ghost use mathlib.Core.Path.{_≡_};
 ghost use mathlib.Core.Bool.{cond};
 ghost use lib.ListN.{length};
-ghost use Rattle.tick.specs.Tick.{tick, Worked};
+ghost use Rattle.tick.specs.Tick.{tick, Worked, Logs};
 ghost use Rattle.tick.specs.Sound.{Sound};
 
 // What moved in a tick, and the place after its records.
 pub struct Ticked {
     pub moving: Moving,
     pub to: usize,
+}
+
+// What moved in a tick, and its records in a log.
+pub struct Logged {
+    pub moving: Moving,
+    pub log: Log,
 }
 
 impl Setting {
@@ -58,5 +65,17 @@ impl Setting {
         moving.drives = drives;
         moving.tifr = tifr;
         Ticked { moving, to }
+    }
+
+    // One tick, its records in a log of their own.
+    pub fn logged(self, m: Moving, cycle: Cycle) -> Logged
+        requires { ⌜ Sound self m ⌝ }
+        ensures { λ r. ⌜ Logs (tick self m) (cycle .0) r ⌝ }
+    {
+        let mut bytes = [0u8; 110];
+        let t = self.tick(m, &mut bytes, 0, cycle);
+        let moving = t.moving;
+        let log = Log { bytes, len: t.to };
+        Logged { moving, log }
     }
 }

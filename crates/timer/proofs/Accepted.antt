@@ -2,20 +2,22 @@
 use Prim.Native.Nat.{ℕ, zero, suc, _-_, _≤_, _<_, _^_}
 use native.Mathlib.Omega.{arith}
 use mathlib.Core.Path.{_≡_, refl}
-use mathlib.Core.Bool.{Bool, true, false, cond, not, _&&_}
-use mathlib.Core.List.{List}
+use mathlib.Core.Bool.{Bool, true, false, cond, not, _&&_, false≢true}
+use mathlib.Core.List.{List, _++_}
 use lib.Dec.{eqb, leb, ltb, eqb·suc-zero}
 use lib.ListN.{length}
-use borrow.Author.Tests.{ltb-false, eqb-true}
+use borrow.Author.Tests.{ltb-false, eqb-true, eqb-false}
+use Rattle.records.specs.Records.{recordsOf}
 use Rattle.counter.specs.declared.state.Timer.{Timer}
 use Rattle.counter.specs.Halts.{latestTo}
 use Rattle.passage.specs.Passage.{ticks}
 use Rattle.counter.specs.Passage.{Passed, advanced}
 use Rattle.tick.proofs.Choices.{cond-case, cond-all}
 use Rattle.timer.specs.declared.calls.Call.{Call}
-use Rattle.answers.specs.Answers.{Told}
+use Rattle.timer.specs.declared.calls.Call.the-variants as call
+use Rattle.answers.specs.Answers.{Told, given}
 use Rattle.answers.specs.Refusals.{isDue, late, refusal}
-use Rattle.timer.specs.Calls.{asks, works, before, worked, moved, performed, refusalOf, answered}
+use Rattle.timer.specs.Calls.{asks, works, says, before, worked, moved, performed, refusalOf, answered}
 use Rattle.timer.specs.Claims.{Request, told}
 
 -- the call comes on time, with a right level or mode, passes no event that it may not, and comes not to a counter halted asleep that cannot take it
@@ -65,3 +67,41 @@ told-all Q t q was advance work =
     (λ e. let a = call-accepted t (q .call) (q .cycle) (eqb-true _ _ e) in
     cond-all (Leaves Q) (asks t (q .call) .advances) (record { timer = advance a }) (worked-leaves Q _ t (q .call) (q .cycle) (q .area) was (work a)))
     (λ e. record { timer = was }) .timer
+
+-- the advance is the one call that advances
+is-advance : (t : Timer) (c : Call) → asks t c .advances ≡ true → c ≡ call.Advance
+unfolding asks
+is-advance t call.Advance e = refl
+is-advance t call.Next e = absurd (false≢true e)
+is-advance t (call.Read address) e = absurd (false≢true e)
+is-advance t (call.Peek address) e = absurd (false≢true e)
+is-advance t (call.Write address value) e = absurd (false≢true e)
+is-advance t call.Tifr e = absurd (false≢true e)
+is-advance t call.Timsk e = absurd (false≢true e)
+is-advance t (call.WriteTifr ones) e = absurd (false≢true e)
+is-advance t (call.WriteTimsk mask) e = absurd (false≢true e)
+is-advance t (call.Edge pin level) e = absurd (false≢true e)
+is-advance t (call.Output level) e = absurd (false≢true e)
+is-advance t (call.Route level) e = absurd (false≢true e)
+is-advance t (call.Sleep mode) e = absurd (false≢true e)
+is-advance t call.Wake e = absurd (false≢true e)
+is-advance t (call.Reduce mask) e = absurd (false≢true e)
+is-advance t (call.Tsm level) e = absurd (false≢true e)
+is-advance t (call.Prescale mask) e = absurd (false≢true e)
+is-advance t call.Reset e = absurd (false≢true e)
+
+-- a call that is not turned away is the advance, or time that passes and then the call's own work
+pub told-taken : (Q : Told → Type 0) (t : Timer) (q : Request)
+    → (Accepted t (q .call) (q .cycle) → q .call ≡ call.Advance → Q (moved (advanced ticks t (q .cycle) (length (q .area))) (q .area)))
+    → (Accepted t (q .call) (q .cycle) → let x = before ticks t (asks t (q .call) .syncs) (q .cycle) in let n = works (x .timer) (q .call) (q .cycle) in
+    Q (given (latestTo (n .timer) (q .cycle)) (says (x .timer) (q .call)) (x .bytes ++ recordsOf (q .cycle) (n .log)) (q .area)))
+    → told ticks t q .number ≡ 0 → Q (told ticks t q)
+unfolding answered performed worked
+told-taken Q t q advance work =
+    cond-case Yes (eqb (refusalOf t (q .call) (q .cycle)) 0)
+    (λ e. let a = call-accepted t (q .call) (q .cycle) (eqb-true _ _ e) in
+    cond-case Yes (asks t (q .call) .advances) (λ k z. advance a (is-advance t (q .call) k)) (λ k. cond-all Yes (leb _ (length (q .area))) (λ z. work a) (λ z. absurd (omega arith))))
+    (λ e z. absurd (eqb-false _ _ e z))
+  where
+    Yes : Told → Type 0
+    Yes x = x .number ≡ 0 → Q x

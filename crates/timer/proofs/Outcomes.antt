@@ -82,31 +82,29 @@ unfolding asks
 sleep-mode t mode cycle e = mod-eq-of-lt (let l = ltb-false 7 mode (call-accepted t (call.Sleep mode) cycle e .right) in omega arith)
 
 -- what an edge's tick and a wake ask
-pub tick-asked : (t : Timer) (c : Call) (cycle : ℕ) {u : Timer} → Valid t → refusalOf t c cycle ≡ 0 → u ≡ syncTo t cycle → (Valid u) × (cycle < 2 ^ 62)
+pub tick-asked : (t : Timer) (c : Call) (cycle : ℕ) {u : Timer} → Valid t → refusalOf t c cycle ≡ 0 → u ≡ syncTo t cycle → Valid u
 unfolding syncTo
 tick-asked t c cycle v e q =
     let a = call-accepted t c cycle e in
     let o = v .origin in
     let s = v .sync in
     let l = a .latest in
-    let m = a .most in (
-      rw q
-          (record {
-            accepted = v .accepted;
-            count = v .count;
-            turns = v .turns;
-            odometer = v .odometer;
-            compares = v .compares;
-            buffers = v .buffers;
-            icr = v .icr;
-            temp = v .temp;
-            origin = omega arith;
-            sync = omega arith;
-            latest = omega arith;
-            slept = λ z. (v .slept z .0, (let k = v .slept z .1 in omega arith));
-          }),
-      m,
-    )
+    let m = a .most in
+    rw q
+    (record {
+      accepted = v .accepted;
+      count = v .count;
+      turns = v .turns;
+      odometer = v .odometer;
+      compares = v .compares;
+      buffers = v .buffers;
+      icr = v .icr;
+      temp = v .temp;
+      origin = omega arith;
+      sync = omega arith;
+      latest = omega arith;
+      slept = λ z. (v .slept z .0, (let k = v .slept z .1 in omega arith));
+    })
 
 pub wake-asked : (t : Timer) (c : Call) (cycle : ℕ) → Valid t → refusalOf t c cycle ≡ 0 → t .halts .asleep ≡ true
     → (t .halts .since .0 ≤ cycle) × (t .clock .origin .0 + (cycle - t .halts .since .0) < 2 ^ 64)

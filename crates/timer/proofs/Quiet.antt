@@ -1,8 +1,8 @@
 -- Before the announced next event a tick only steps the count, adds one to the odometer and lifts a blocked match.
 use Prim.Native.Nat.{ℕ, suc, _+_, _<_}
 use native.Mathlib.Omega.{arith}
-use mathlib.Core.Path.{_≡_, refl, sym, _∙_}
-use mathlib.Core.Bool.{Bool, true, false, cond}
+use mathlib.Core.Path.{_≡_, refl, sym, ap, _∙_}
+use mathlib.Core.Bool.{Bool, true, false, cond, and-false}
 use mathlib.Core.List.{List}
 use lib.Dec.{eqb, leb, leb·zero}
 use borrow.Author.Tests.{leb-true, leb-false}
@@ -11,20 +11,26 @@ use Rattle.counter.specs.declared.next.Next.{Next}
 use Rattle.counter.specs.declared.next.Next.the-variants.{At, Never}
 use Rattle.counter.specs.declared.state.Timer.{Timer}
 use Rattle.time.specs.declared.units.Cycle.{Cycle}
-use Rattle.wave.specs.Distance.{gap}
+use Rattle.wave.specs.declared.kinds.Wave.{Wave}
+use Rattle.wave.specs.Distance.{gap, moved}
 use Rattle.time.specs.Units.{ticksAt}
 use Rattle.time.proofs.Clocks.{cycle-mono}
 use Rattle.counter.specs.Modes.{modeOf, waveOf, prescalerOf, runningOf}
 use Rattle.counter.specs.Next.{nextAt, nextOf}
+use Rattle.tick.specs.declared.setting.Moving.{Moving}
+use Rattle.tick.specs.Skip.{linear}
 use Rattle.tick.specs.Distance.{flagsAhead}
 use Rattle.counter.specs.Setting.{settingAt, settingOf, movingOf}
-use Rattle.passage.specs.Passage.{ticks}
+use Rattle.passage.specs.Passage.{Run, ticks, quiet as quietRun}
+use Rattle.passage.proofs.Runs.{quiet-ticks}
+use Rattle.counter.specs.Passage.{start}
+use Rattle.counter.specs.Valid.{Valid}
 use Rattle.counter.proofs.Bounds.{valid-sound}
-use Rattle.tick.proofs.Still.{tick-still, still-at, linear-suc}
-use Rattle.answers.specs.Answers.{event, Told, turned}
+use Rattle.tick.proofs.Still.{tick-still, still-at}
+use Rattle.answers.specs.Answers.{event, turned}
 use Rattle.timer.specs.declared.calls.Call.the-variants as call
 use Rattle.timer.specs.Calls.{asks, works, says, before, worked, performed, refusalOf, answered}
-use Rattle.timer.specs.Claims.{told, tickCycle, Quiet}
+use Rattle.timer.specs.Claims.{told, tickCycle, plainAfter, steppedOn, QuietOf, Quiet}
 use Rattle.counter.proofs.Keeps.{fresh-is-valid}
 use Rattle.timer.proofs.Keeps.{last-valid}
 
@@ -73,8 +79,20 @@ below t n h = go (leb g n) refl
         absurd (omega arith)
     go false e = leb-false g n e
 
+-- one linear step
+step-on : (w : Wave) (m : Moving) → linear w 1 m ≡ steppedOn w m
+unfolding linear moved
+step-on w m = simp and-false
+
+pub quiet-of : (t : Timer) → Valid t → QuietOf t
+unfolding settingAt start quietRun
+quiet-of t v cycle area at flags n h l =
+    let s = valid-sound t v in
+    let w : Wave = waveOf t (modeOf t) in
+    let g = below t n (rw (announces t (next-told t cycle area h) .cycle) at l) in
+    let e : plainAfter t n ≡ linear w n (movingOf t)
+    = ap (λ (r : Run). r .moving) (quiet-ticks (settingOf t) (prescalerOf t) (λ k. true) n (start t) (record { sound = s; fit = refl }) refl (omega arith)) in
+    rw e (tick-still (settingOf t) _ (still-at w (movingOf t) (s .steady) n g) ∙ rw (step-on w (linear w n (movingOf t))))
+
 pub quiet : Quiet
-unfolding settingAt
-quiet c e qs cycle area at flags n h l =
-    let v = valid-sound _ (last-valid _ qs (fresh-is-valid c e)) in
-    tick-still _ _ (still-at _ _ (v .steady) n (below _ n (rw (announces _ (next-told _ cycle area h) .cycle) at l))) ∙ simp linear-suc
+quiet c e qs = quiet-of _ (last-valid _ qs (fresh-is-valid c e))

@@ -1,6 +1,6 @@
 -- What is claimed of the timer: the demands as theorems. Proofs stand apart, in proofs/.
 use Prim.Native.Nat.{ℕ, suc, _+_, _-_, _%_, _≤_, _<_}
-use mathlib.Core.Bool.{Bool, true, false, _||_}
+use mathlib.Core.Bool.{Bool, true, false, cond, _&&_, _||_}
 use mathlib.Core.List.{List, [], _∷_}
 use mathlib.Core.Path.{_≡_}
 use lib.Dec.{eqb}
@@ -11,13 +11,16 @@ use Rattle.counter.specs.declared.next.Next.the-variants.{At}
 use Rattle.counter.specs.declared.state.Timer.{Timer}
 use Rattle.time.specs.declared.units.Cycle.{Cycle}
 use Rattle.time.specs.Units.{ticksAt, cycleAt}
+use Rattle.wave.specs.declared.kinds.Wave.{Wave}
+use Rattle.wave.specs.Count.{falls, counted}
+use Rattle.tick.specs.declared.setting.Moving.{Moving}
 use Rattle.tick.specs.Tick.{tick}
-use Rattle.tick.specs.Skip.{linear}
 use Rattle.counter.specs.Next.{nextAt}
 use Rattle.counter.specs.Fresh.{freshOf}
 use Rattle.counter.specs.Modes.{stop, clockAt, modeOf, waveOf, prescalerOf, runningOf}
 use Rattle.passage.specs.Passage.{Passage, ticks, events}
-use Rattle.counter.specs.Setting.{settingOf, movingOf}
+use Rattle.counter.specs.Passage.{start}
+use Rattle.counter.specs.Setting.{settingOf}
 use Rattle.counter.specs.Valid.{Valid}
 use Rattle.timer.specs.declared.calls.Call.{Call}
 use Rattle.timer.specs.declared.calls.Call.the-variants as call
@@ -96,12 +99,30 @@ Held = Always HeldOf
 abbrev pub tickCycle : Timer → ℕ → ℕ
 tickCycle t n = cycleAt (prescalerOf t) (ticksAt (prescalerOf t) (t .clock .sync .0) + n)
 
--- Quiet: of a timer, a prescaled tick whose cycle lies before the cycle that next answers only steps the count, adds one to the odometer and lifts a blocked match
+-- the plain counter n single ticks after the sync cycle
+abbrev pub plainAfter : Timer → ℕ → Moving
+plainAfter t n = ticks (settingOf t) (prescalerOf t) (λ k. true) n (start t) .moving
+
+-- the count one step on, one more on the odometer, no match blocked; nothing else moves
+abbrev pub steppedOn : Wave → Moving → Moving
+steppedOn w m = record {
+  counter = record {
+    count = cond (falls w (m .counter)) (m .counter .count - 1) (m .counter .count + 1);
+    direction = m .counter .direction;
+    blocked = false;
+    odometer = counted (m .counter .odometer) 1;
+  };
+  ocr = m .ocr;
+  oc = m .oc;
+  drives = m .drives;
+  tifr = m .tifr;
+}
+
+-- Quiet: of a timer, after n single ticks, a prescaled tick whose cycle lies before the cycle that next answers only steps the count, adds one to the odometer and lifts a blocked match: no record
 abbrev pub QuietOf : Timer → Type 0
-QuietOf t = (cycle : ℕ) (area : List ℕ) (at : Cycle) (flags n : ℕ) →
-    let w = waveOf t (modeOf t) in
-    told ticks t (record { call = call.Next; cycle = cycle; area = area }) .values ≡ event (At at flags) → tickCycle t (suc n) < at .0
-    → tick (settingOf t) (linear w n (movingOf t)) ≡ record { moving = linear w (suc n) (movingOf t); log = [] }
+QuietOf t = (cycle : ℕ) (area : List ℕ) (at : Cycle) (flags n : ℕ)
+    → told ticks t (record { call = call.Next; cycle = cycle; area = area }) .values ≡ event (At at flags) → tickCycle t (suc n) < at .0
+    → tick (settingOf t) (plainAfter t n) ≡ record { moving = steppedOn (waveOf t (modeOf t)) (plainAfter t n); log = [] }
 
 -- after any list
 abbrev pub Quiet : Type 0
@@ -113,21 +134,27 @@ Progress = (c : Config) → accepted c ≡ true → (qs : List Request) (cycle :
     runningOf t ≡ true → refusalOf t call.Advance cycle ≡ 0 → nextAt t ≤ cycle → 110 ≤ length area
     → nextAt t ≤ told ticks t (record { call = call.Advance; cycle = cycle; area = area }) .timer .clock .sync .0
 
--- Origin: an accepted reset, own prescaler reset or TSM release makes its cycle the origin of the ticks, and a wake adds the cycles that its sleep halted
-abbrev pub taken : Timer → Call → ℕ → List ℕ → Type 0
-taken t c cycle area = answered ticks t c cycle area .number ≡ 0
+-- the origin after an accepted call: a reset, own prescaler reset or TSM release makes it its cycle, a wake adds the cycles that its sleep halted, every other call leaves it
+unfoldable pub originOf : Timer → Call → ℕ → ℕ
+originOf t call.Reset cycle = cycle
+originOf t (call.Prescale mask) cycle = cond (prescales t mask) cycle (t .clock .origin .0)
+originOf t (call.Tsm level) cycle = cond (t .halts .tsm && eqb level 0) cycle (t .clock .origin .0)
+originOf t call.Wake cycle = cond (t .halts .asleep) (t .clock .origin .0 + (cycle - t .halts .since .0)) (t .clock .origin .0)
+originOf t call.Advance cycle = t .clock .origin .0
+originOf t call.Next cycle = t .clock .origin .0
+originOf t (call.Read address) cycle = t .clock .origin .0
+originOf t (call.Peek address) cycle = t .clock .origin .0
+originOf t (call.Write address value) cycle = t .clock .origin .0
+originOf t call.Tifr cycle = t .clock .origin .0
+originOf t call.Timsk cycle = t .clock .origin .0
+originOf t (call.WriteTifr ones) cycle = t .clock .origin .0
+originOf t (call.WriteTimsk mask) cycle = t .clock .origin .0
+originOf t (call.Edge pin level) cycle = t .clock .origin .0
+originOf t (call.Output level) cycle = t .clock .origin .0
+originOf t (call.Route level) cycle = t .clock .origin .0
+originOf t (call.Sleep mode) cycle = t .clock .origin .0
+originOf t (call.Reduce mask) cycle = t .clock .origin .0
 
--- the origin after the call
-abbrev pub originAfter : Timer → Call → ℕ → List ℕ → ℕ
-originAfter t c cycle area = answered ticks t c cycle area .timer .clock .origin .0
-
--- the four calls that move it
-pub record Origins (t : Timer) (cycle : ℕ) (area : List ℕ) : Type 0 where
-  pub reset : taken t call.Reset cycle area → originAfter t call.Reset cycle area ≡ cycle
-  pub prescale : (mask : ℕ) → prescales t mask ≡ true → taken t (call.Prescale mask) cycle area → originAfter t (call.Prescale mask) cycle area ≡ cycle
-  pub release : t .halts .tsm ≡ true → taken t (call.Tsm 0) cycle area → originAfter t (call.Tsm 0) cycle area ≡ cycle
-  pub wake : t .halts .asleep ≡ true → taken t call.Wake cycle area → originAfter t call.Wake cycle area ≡ t .clock .origin .0 + (cycle - t .halts .since .0)
-
--- of any timer
+-- Origin: of any timer and any call that is not turned away
 abbrev pub Origin : Type 0
-Origin = (t : Timer) (cycle : ℕ) (area : List ℕ) → Origins t cycle area
+Origin = (t : Timer) (q : Request) → told ticks t q .number ≡ 0 → told ticks t q .timer .clock .origin .0 ≡ originOf t (q .call) (q .cycle)

@@ -1,6 +1,6 @@
 -- The readings T1 to T10 on the bench (01, "Readings on the bench") and that of 02, 2.5: for each the timer, the calls, and what they must answer.
 -- The sheet: nothing of its own, readings are 01's.
-use Prim.Native.Nat.{ℕ}
+use Prim.Native.Nat.{ℕ, _*_}
 use mathlib.Core.Bool.{Bool, true, false}
 use mathlib.Core.List.{List, [], _∷_, _++_}
 use mathlib.Core.Path.{_≡_}
@@ -63,13 +63,17 @@ announces cycle next raise = up Next cycle (event (At (record { 0 = next }) rais
 abbrev pub reaches : ℕ → List ℕ → ℕ → Step
 reaches cycle bytes raise = up Advance cycle (reached raise) bytes
 
--- flags of timer 0 raised at a cycle below 2^16, with no line high
+-- flags raised at a cycle below 2^16, with no line high
 abbrev pub flags : ℕ → ℕ → ℕ → List ℕ
 flags high low raised = 0x40 ∷ 0 ∷ 0 ∷ 0 ∷ 0 ∷ 0 ∷ high ∷ low ∷ raised ∷ 0 ∷ []
 
--- a trigger of timer 0
+-- a trigger of a timer with an id below 16
+abbrev pub triggerOf : ℕ → ℕ → ℕ → ℕ → List ℕ
+triggerOf id high low k = 0x80 ∷ 0 ∷ 0 ∷ 0 ∷ 0 ∷ 0 ∷ high ∷ low ∷ k ∷ id * 16 ∷ []
+
+-- one of timer 0
 abbrev pub trigger : ℕ → ℕ → ℕ → List ℕ
-trigger high low k = 0x80 ∷ 0 ∷ 0 ∷ 0 ∷ 0 ∷ 0 ∷ high ∷ low ∷ k ∷ 0 ∷ []
+trigger = triggerOf 0
 
 -- A is flag 2 and trigger 1
 abbrev pub matchA : ℕ → ℕ → List ℕ
@@ -92,9 +96,17 @@ pub record Reading : Type 0 where
 abbrev pub ctc : List Step
 ctc = writes 0x44 0x02 0 ∷ writes 0x47 124 0 ∷ writes 0x48 200 0 ∷ writes 0x45 0x03 0 ∷ []
 
--- T1 to T10; then a door program's reads of count, compare and count (02, 2.5), in a mode that buffers the compare
-abbrev pub readings : List Reading
-readings =
+-- a timer with another id
+abbrev pub idTo : Config → ℕ → Config
+idTo c id = record { id = id; wide = c .wide; layout = c .layout; tccra = c .tccra; tccrb = c .tccrb; foc = c .foc; tcnt = c .tcnt; a = c .a; b = c .b; c = c .c; icr = c .icr; tov = c .tov; t = c .t; clocks = c .clocks; group = c .group; prr = c .prr; sleeprun = c .sleeprun }
+
+-- ICR1 is 125, its high byte and its low byte, and ICF1 is set
+abbrev pub icrAndFlags : ℕ → List Step
+icrAndFlags cycle = reads 0x87 cycle 0 ∷ reads 0x86 cycle 125 ∷ up Tifr cycle (byte 0x20) [] ∷ []
+
+-- T1 to T10, T8 and T9 of a Timer1 with an id; then a door program's reads of count, compare and count (02, 2.5), in a mode that buffers the compare
+abbrev pub readingsWith : ℕ → List Reading
+readingsWith id =
     record {
       timer = timer0;
       steps =
@@ -128,17 +140,16 @@ readings =
           ∷ down (reads 0x46 320 230) ∷ down (announces 320 346 5) ∷ [];
     }
     ∷ record {
-      timer = timer1;
+      timer = idTo timer1 id;
       steps =
           writes 0x89 0x3D 0 ∷ writes 0x88 0x08 0 ∷ writes 0x8B 0xFF 0 ∷ writes 0x8A 0xFF 0 ∷ writes 0x81 0x0D 0 ∷ announces 0 16000000 2 ∷ [];
     }
     ∷ record {
-      timer = timer1;
+      timer = idTo timer1 id;
       steps =
           writes 0x89 0xFF 0 ∷ writes 0x88 0xFF 0 ∷ writes 0x8B 0xFF 0 ∷ writes 0x8A 0xFF 0 ∷ writes 0x81 0x42 0
-          ∷ up (Edge 14 1) 1003 none ((0x40 ∷ 0 ∷ 0 ∷ 0 ∷ 0 ∷ 0 ∷ 3 ∷ 0xEB ∷ 0x20 ∷ 0 ∷ []) ++ (0x80 ∷ 0 ∷ 0 ∷ 0 ∷ 0 ∷ 0 ∷ 3 ∷ 0xEB ∷ 0x40 ∷ 0x10 ∷ []))
-          ∷ reads 0x86 1003 125 ∷ up (Edge 14 0) 1003 none [] ∷ reads 0x86 1003 125
-          ∷ up Tifr 1003 (byte 0x20) [] ∷ announces 1003 524288 7 ∷ [];
+          ∷ up (Edge 14 1) 1003 none (flags 0x03 0xEB 0x20 ++ triggerOf id 0x03 0xEB 0x40) ∷ icrAndFlags 1003 ++ (up (Edge 14 0) 1100 none [] ∷ icrAndFlags 1100)
+          ++ (announces 1100 524288 7 ∷ []);
     }
     ∷ record {
       timer = timer0;
@@ -153,6 +164,10 @@ readings =
           ∷ gives 0x84 0 0x34 ∷ gives 0x89 0 0x56 ∷ gives 0x88 0 0x78 ∷ gives 0x85 0 0x12 ∷ [];
     }
     ∷ []
+
+-- all with id 0, as 01 has them; on the board Timer1 has 1
+abbrev pub readings : List Reading
+readings = readingsWith 0
 
 -- every reading, as the plain counter plays it
 unfoldable pub replayed : List Reading → List Reading

@@ -7,14 +7,14 @@ use borrow.Author.Needs.{needs}
 use borrow.Author.Tests.{eq-eqb, ne-eqb}
 use Rattle.counter.specs.Modes.{runningOf}
 use Rattle.counter.proofs.Clocks.{running-divides}
-use Rattle.shift.specs.Shift.{shiftOf, refusalOf}
+use Rattle.shift.specs.Shift.{refusalOf, valuesAt}
 use Rattle.shift.proofs.Refusals.{first-since, second-since, ticks-apart, shifted-is}
 use Rattle.shift.proofs.shift.Statement.{statement}
 use Rattle.shift.proofs.shift.Tie as tie
 
 returns : tie.Need-returns
-unfolding shiftOf
-returns c = simp (← c .before .refusal .ensures, ne-eqb _ _ (c .if1 .taken))
+unfolding valuesAt
+returns c = record { number = c .before .refusal .ensures; values = simp (← c .before .refusal .ensures, ne-eqb _ _ (c .if1 .taken)) }
 
 -- neither cycle is refused, nor are they too far apart
 none : (c : tie.Else1) → refusalOf (c .before .before .args .t) (c .before .before .args .first .0) (c .before .before .args .second .0) ≡ 0
@@ -42,11 +42,14 @@ returns-2 : tie.Need-returns-2
 returns-2 c =
     let x = c .before .before .before .before .before .before .before .before .args in
     let h : SFits w32 (c .between .result) = search needs in
-    shifted-is (x .t) (x .first .0) (x .second .0) (none (c .before .before .before .before .before .before)) (runs (c .before .before .before .before)) _ (c .before .before .before .prescaler .ensures) _ _ (c .before .before .ticks .ensures) (c .before .ticks2 .ensures) _ (toZ-ofZ h ∙ c .between .ensures)
+    record {
+      number = sym (none (c .before .before .before .before .before .before));
+      values = shifted-is (x .t) (x .first .0) (x .second .0) (none (c .before .before .before .before .before .before)) (runs (c .before .before .before .before)) _ (c .before .before .before .prescaler .ensures) _ _ (c .before .before .ticks .ensures) (c .before .ticks2 .ensures) _ (toZ-ofZ h ∙ c .between .ensures);
+    }
 
 returns-3 : tie.Need-returns-3
-unfolding shiftOf
-returns-3 c = simp (eq-eqb _ _ (none (c .before .before)), sym (c .before .running .ensures) ∙ c .if2 .left)
+unfolding valuesAt
+returns-3 c = record { number = sym (none (c .before .before)); values = simp (eq-eqb _ _ (none (c .before .before)), sym (c .before .running .ensures) ∙ c .if2 .left) }
 
 pub shift-spec : {M : Type 1} → statement M
 shift-spec =

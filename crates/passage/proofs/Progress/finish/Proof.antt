@@ -40,7 +40,7 @@ loop-again : tie.Need-loop-again Inv-loop μ-loop
 loop-again c = (refl, wrote (c .before .before .before .before .before .before .before .before .before .before .before .before .before .before .loop .inv .1) (on (c .before .before .before .before .before .before .before .before .before .before .before)) (c .before .before .before .before .before .before .before .before .before .before .aside .ensures) (c .before .before .before .before .before .write .ensures .0) (c .before .before .before .before .before .write .ensures .1) (c .before .before .if2 .taken))
 
 skip-requires : tie.Need-skip-requires Inv-loop μ-loop
-skip-requires c κs = (c .before .before .before .before .before .before .before .before .before .before .before .before .before .loop .inv .1 .ready .sound .steady, c .before .before .before .before .before .before .before .before .before .before .before .before .before .loop .inv .1 .ready .gap)
+skip-requires c κs = (c .before .before .before .before .before .before .before .before .before .before .before .before .before .loop .inv .1 .ready .sound .steady, omega (arith, c .before .before .before .before .before .before .before .before .before .before .before .before .before .loop .inv .1 .ready .gap))
 
 cast-t27 : tie.Need-cast-t27 Inv-loop μ-loop
 cast-t27 c = record { fits = omega (arith, gap-small (c .before .before .before .before .before .before .before .before .before .before .before .before .before .before .loop .inv .1)) }

@@ -3,7 +3,7 @@ use native.Mathlib.Omega.{arith}
 use mathlib.Core.Path.{_≡_, refl, _∙_}
 use lib.ListN.{length}
 use borrow.Author.Needs.{needs}
-use Rattle.passage.proofs.Loops.{Lags, lags-begin, lags-on, lags-sound, lags-gap, lags-near, lags-event, lags-turn, goes, gap-small, near-cycle, ran}
+use Rattle.passage.proofs.Loops.{Lags, lags-begin, lags-sound, lags-gap, lags-near, lags-event, lags-turn, goes, gap-small, near-cycle, ran}
 use Rattle.passage.proofs.Progress.run.Statement.{statement}
 use Rattle.passage.proofs.Progress.run.Tie as tie
 
@@ -30,7 +30,7 @@ sub-if1-2 : tie.Need-sub-if1-2 Inv-loop μ-loop
 sub-if1-2 c = omega (arith, c .before .loop .inv .0 .going .ready .bytes, c .before .loop .inv .0 .going .long)
 
 skip-requires : tie.Need-skip-requires Inv-loop μ-loop
-skip-requires c κs = (lags-sound (c .before .before .loop .inv .0) .steady, lags-gap (c .before .before .loop .inv .0))
+skip-requires c κs = (lags-sound (c .before .before .loop .inv .0) .steady, omega (arith, lags-gap (c .before .before .loop .inv .0)))
 
 cast-tick : tie.Need-cast-tick Inv-loop μ-loop
 cast-tick c = record { fits = omega (arith, gap-small (c .before .before .before .loop .inv .0 .going)) }
@@ -60,7 +60,7 @@ loop-again : tie.Need-loop-again Inv-loop μ-loop
 loop-again c = (lags-turn (c .before .before .before .before .before .before .before .before .before .before .before .before .before .loop .inv .0) (on (c .before .before .before .before .before .before .before .before .before .before .before)) (c .before .before .before .before .before .before .before .before .before .before .skip .ensures) (c .before .before .before .before .before .before .before .before .cycle .ensures) (c .before .before .before .before .before .before .before .tick .ensures) (c .before .before .before .dialled .ensures ∙ rw (c .before .before .before .before .before .before .before .before .before .before .before .before .before .loop .inv .1)) (c .gap .ensures), c .before .before .before .before .before .before .before .before .before .before .before .before .before .loop .inv .1, c .before .before .before .before .before .before .before .before .before .before .before .before .before .loop .inv .2)
 
 sub-counted : tie.Need-sub-counted Inv-loop μ-loop
-sub-counted c = omega (arith, lags-on (c .before .before .before .loop .inv .0), c .before .before .before .loop .inv .2)
+sub-counted c = omega (arith, c .before .before .before .loop .inv .0 .on, c .before .before .before .loop .inv .2)
 
 counted-requires : tie.Need-counted-requires Inv-loop μ-loop
 counted-requires c κs = search needs
@@ -72,7 +72,7 @@ same-length : tie.Need-same-length Inv-loop μ-loop
 same-length c = c .before .before .before .before .before .loop .inv .0 .going .long
 
 returns : tie.Need-returns Inv-loop μ-loop
-returns c = rw (c .dialled2 .ensures, c .before .counted .ensures, c .before .before .before .before .before .loop .inv .1, c .before .before .before .before .before .loop .inv .2) (ran (c .before .before .before .before .before .loop .inv .0 .going) (c .before .before .before .before .before .loop .inv .0 .first) (c .before .before .before .if1 .left))
+returns c = rw (c .dialled2 .ensures, c .before .counted .ensures, c .before .before .before .before .before .loop .inv .1, c .before .before .before .before .before .loop .inv .2) (ran (c .before .before .before .before .before .loop .inv .0 .going) (c .before .before .before .if1 .left))
 
 pub run-spec : {M : Type 1} → statement M
 run-spec =

@@ -1,4 +1,5 @@
 -- `timer_lines::shifted::shift_line` meets its contract.
+use Rattle.shift.proofs.Determined.{answer-is}
 use Rattle.timer_lines.proofs.Showing.{shown-not-read, shown-no-timer, shown-is}
 use Rattle.timer_lines.specs.Shown.{shiftLine}
 use Rattle.figures.specs.Figures.{codes}
@@ -20,7 +21,7 @@ returns-2 : tie.Need-returns-2
 unfolding shiftLine
 returns-2 c =
     let a = c .before .before .before .before .before .before .before .before .before .before .before .args in
-    rw (← c .before .before .before .before .before .before .before .before .before .exactly .ensures, ← c .before .before .before .before .before .before .before .before .decimal .ensures .1, ← c .before .before .before .before .before .before .before .decimal2 .ensures .1, shown-is (a .s) (a .nth) (c .before .before .before .before .before .before .before .decimal2 .result .next .why) _ _ refl (c .before .before .before .before .if1 .left) (c .before .before .before .if2 .taken), ← c .before .before .shift .ensures) (c .put .ensures)
+    rw (← c .before .before .before .before .before .before .before .before .before .exactly .ensures, ← c .before .before .before .before .before .before .before .before .decimal .ensures .1, ← c .before .before .before .before .before .before .before .decimal2 .ensures .1, shown-is (a .s) (a .nth) (c .before .before .before .before .before .before .before .decimal2 .result .next .why) _ _ refl (c .before .before .before .before .if1 .left) (c .before .before .before .if2 .taken), ← answer-is (c .before .before .shift .ensures)) (c .put .ensures)
 
 returns-3 : tie.Need-returns-3
 unfolding codes shiftLine
