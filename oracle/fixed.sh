@@ -37,7 +37,7 @@ repeat() {
 }
 
 no_timer() {
-    printf '# ==== before any timer\nstate\nnext 0 110\nadvance 18446744073709551615 0\nread 46 0 110\nshift 0 1\nboard state\nboard advance 0 0 110\nboard read 43 0 0\n'
+    printf '# ==== before any timer\nstate\nnext 0 110\nadvance 18446744073709551615 0\nread 46 0 110\nshift 0 1\nwrites 110 -\nwrites 110 114040000000000000\nboard state\nboard advance 0 0 110\nboard read 43 0 0\n'
 }
 
 readings() {
