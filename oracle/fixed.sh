@@ -37,13 +37,23 @@ repeat() {
 }
 
 no_timer() {
-    printf '# ==== before any timer\nstate\nnext 0 110\nadvance 18446744073709551615 0\nread 46 0 110\nshift 0 1\nboard state\nboard advance 0 0 110\nboard read 43 0 0\n'
+    printf '# ==== before any timer\nstate\nnext 0 110\nadvance 18446744073709551615 0\nread 46 0 110\nshift 0 1\nwrites 110 -\nwrites 110 114040000000000000\nwdt state\nboard state\nboard advance 0 0 110\nboard read 43 0 0\n'
 }
 
 readings() {
-    for name in T1 T2 T3 T4 T5 T6 T7 T8 T9 T10 bench refusals lists doors log unreadable board; do
+    for name in T1 T2 T3 T4 T5 T6 T7 T8 T9 T10 bench refusals lists doors log watchdog unreadable board; do
         files "readings/$name.script"
     done
+}
+
+# The log to its last place, after readings/log.script: from place 3 on 6,000 records, each with its number; one too many; and, once
+# the two oldest are released, two more at their places.
+full_log() {
+    section "a full log"
+    awk 'BEGIN { for (n = 0; n < 6000; n++) printf "log add %020d\n", n }'
+    printf 'log add 40000000000000010600\nlog read 5999\nlog read 0\nlog read 2\nlog read 3\nlog release 6001\nlog release 2\n'
+    printf 'log add 40000000000000010600\nlog add 80000000000000011000\nlog read 2\nlog read 3\nlog read 4\nlog read 5\n'
+    printf 'log add 00000000000000000000\nlog release 6000\nlog release 1\n'
 }
 
 sample() {
@@ -83,14 +93,19 @@ sample > "$room/sample"
 {
     no_timer
     readings
+    full_log
     files differences/*.script choices/*.script ../examples/door.script
     cat "$room/sample"
     hostile
 } > "$room/stdin"
 (cd "$room" && "$here/$bin/judge" --sheet) < "$room/stdin" > "$room/stdout"
 
-# Lines that cannot be read are in the sample too, but not every kind.
-cat readings/unreadable.script "$room/sample" > "$room/reaches"
+# Lines that cannot be read are in the sample too, but not every kind; the watchdog is not, and the log is not filled.
+{
+    cat readings/unreadable.script readings/watchdog.script
+    full_log
+    cat "$room/sample"
+} > "$room/reaches"
 $bin/compare --cover "$room/reaches"
 $bin/compare --cover "$room/stdin"
 

@@ -72,10 +72,38 @@ static void keep(const uint8_t *records, uint64_t length)
     assert(l.number == 0 && paddlemauve_log_count(l.log) == held - 1 && paddlemauve_log_oldest(l.log) == 1);
     struct pm_logged refused = paddlemauve_log_release(l.log, (struct pm_list){bytes, PM_LOG_BYTES}, held);
     assert(refused.number == PM_NOT_HELD && refused.log.held == held - 1);
-    assert(paddlemauve_log_add(l.log, (struct pm_area){bytes, PM_LOG_BYTES - 1}, pm_entry_of(records)).number == PM_LOG_AREA);
     while (l.number == 0) l = paddlemauve_log_add(l.log, area, pm_entry_of(records));
     assert(l.number == PM_LOG_FULL && paddlemauve_log_count(l.log) == PM_LOG_PLACES && l.log.next == 1);
     free(bytes);
+}
+
+/* An area that has not PM_LOG_BYTES bytes is told before all others, and nothing has changed. */
+static void other_areas(struct pm_entry entry)
+{
+    static const size_t sizes[] = {0, PM_LOG_BYTES - 1, PM_LOG_BYTES + 1};
+    uint8_t *bytes = calloc(1, PM_LOG_BYTES + 1);
+    assert(bytes);
+    for (int i = 0; i < 3; i++) {
+        struct pm_logged l = paddlemauve_log_add(paddlemauve_log(), (struct pm_area){bytes, sizes[i]}, entry);
+        assert(l.number == PM_LOG_AREA && paddlemauve_log_count(l.log) == 0 && l.log.next == 0);
+        assert(paddlemauve_log_release(l.log, (struct pm_list){bytes, sizes[i]}, 1).number == PM_LOG_AREA);
+    }
+    for (size_t i = 0; i <= PM_LOG_BYTES; i++) assert(bytes[i] == 0);
+    assert(paddlemauve_log_release(paddlemauve_log(), (struct pm_list){bytes, PM_LOG_BYTES}, 1).number == PM_NOT_HELD);
+    free(bytes);
+}
+
+/* Bytes that no call writes are no record: filler bits, a watchdog's body of 0 or 3, or more than its low byte. */
+static void no_records(void)
+{
+    static const uint8_t bytes[][PM_RECORD] = {
+        {0, 0, 0, 0, 0, 0, 0, 2, 5, 0xc1}, {0x40, 0, 0, 0, 0, 0, 0, 2, 6, 4}, {0x80, 0, 0, 0, 0, 0, 0, 2, 0x10, 1},
+        {0xc0, 0, 0, 0, 0, 0, 0, 2, 0, 0}, {0xc0, 0, 0, 0, 0, 0, 0, 2, 0, 3}, {0xc0, 0, 0, 0, 0, 0, 0, 2, 1, 1},
+    };
+    for (size_t i = 0; i < sizeof bytes / sizeof bytes[0]; i++) {
+        struct pm_record r = pm_read_record(bytes[i]);
+        assert(r.kind == PM_MALFORMED && r.cycle == 0 && r.pin == 0 && r.flags == 0 && r.trigger == 0 && r.timeout == 0);
+    }
 }
 
 static void show(struct pm_list log)
@@ -110,6 +138,8 @@ int main(void)
     uint64_t length = motor((struct pm_area){records, sizeof records});
     rules();
     keep(records, length);
+    other_areas(pm_entry_of(records));
+    no_records();
     show((struct pm_list){records, length});
     puts("a door's rules, log and dump from C");
     return 0;

@@ -120,14 +120,17 @@ struct pm_reply paddlemauve_count_high(struct pm_timer *timer, uint64_t cycle);
 /* The bytes of a write in a list. */
 enum { PM_WRITE_BYTES = 10 };
 
-/* A write as an item of a list: address up to 0x3ff, cycle up to 2^62 - 1. */
-static inline void pm_pack_write(uint8_t *bytes, uint16_t address, uint8_t value, uint64_t cycle)
+/* Makes a write an item of a list, and says true. False, and the bytes as they were, where an item has no room for it: an address over 0x3ff, a cycle over
+ * 2^62 - 1. */
+static inline bool pm_pack_write(uint8_t *bytes, uint16_t address, uint8_t value, uint64_t cycle)
 {
     int i;
+    if (address > 0x3ff || cycle >> 62) return false;
     bytes[0] = (uint8_t)(address >> 2);
     bytes[1] = (uint8_t)(address << 6 | value >> 2);
     bytes[2] = (uint8_t)(value << 6 | cycle >> 56);
     for (i = 3; i < PM_WRITE_BYTES; i++) bytes[i] = (uint8_t)(cycle >> 8 * (9 - i));
+    return true;
 }
 
 /* A watchdog. It comes from paddlemauve_watchdog and is replaced by what each call leaves. */
@@ -187,7 +190,7 @@ struct pm_replied paddlemauve_board_call(struct pm_board *board, struct pm_order
 /* The bytes of a record, and those of an area that holds the records of any call's one event. */
 enum { PM_RECORD = 10, PM_AREA = 110 };
 
-enum pm_record_kind { PM_PIN, PM_FLAGS, PM_TRIGGER, PM_WATCHDOG };
+enum pm_record_kind { PM_PIN, PM_FLAGS, PM_TRIGGER, PM_WATCHDOG, PM_MALFORMED };
 
 /* The request lines of a flag record, the triggers, and the time-outs of a watchdog. */
 enum pm_line { PM_LINE_C = 1, PM_LINE_CAPTURE = 2, PM_LINE_B = 4, PM_LINE_A = 8, PM_LINE_OVERFLOW = 16 };
@@ -204,31 +207,7 @@ struct pm_record {
     uint8_t timeout;
 };
 
-/* The record of PM_RECORD bytes, as a call wrote them. */
-static inline struct pm_record pm_read_record(const uint8_t *bytes)
-{
-    struct pm_record r = {0, 0, 0, false, false, 0, 0, 0, 0, 0};
-    int i;
-    for (i = 0; i < 8; i++) r.cycle = r.cycle << 8 | bytes[i];
-    r.kind = (uint8_t)(r.cycle >> 62);
-    r.cycle &= ((uint64_t)1 << 62) - 1;
-    if (r.kind == PM_PIN) {
-        r.pin = bytes[8];
-        r.enable = bytes[9] >> 7 & 1;
-        r.value = bytes[9] >> 6 & 1;
-    } else if (r.kind == PM_FLAGS) {
-        r.flags = bytes[8];
-        r.lines = bytes[9] >> 3;
-    } else if (r.kind == PM_TRIGGER) {
-        r.trigger = bytes[8] >> 4;
-        r.id = (uint8_t)(bytes[8] << 4 | bytes[9] >> 4);
-    } else {
-        r.timeout = bytes[9];
-    }
-    return r;
-}
-
-/* A record's PM_RECORD bytes, as a call would write them; of a flag record's lines the low five bits, of a trigger the low four. */
+/* A record's PM_RECORD bytes, as a call would write them, unless it is PM_MALFORMED; of a flag record's lines the low five bits, of a trigger the low four. */
 static inline void pm_write_record(uint8_t *bytes, struct pm_record r)
 {
     int i;
@@ -247,6 +226,37 @@ static inline void pm_write_record(uint8_t *bytes, struct pm_record r)
     } else {
         bytes[9] = r.timeout;
     }
+}
+
+/* The record of PM_RECORD bytes, as a call wrote them. Where no call writes such bytes, since a filler bit is set or a watchdog's body is neither 1 nor 2,
+ * kind is PM_MALFORMED and every other field 0. */
+static inline struct pm_record pm_read_record(const uint8_t *bytes)
+{
+    struct pm_record r = {0, 0, 0, false, false, 0, 0, 0, 0, 0};
+    const struct pm_record malformed = {PM_MALFORMED, 0, 0, false, false, 0, 0, 0, 0, 0};
+    uint8_t again[PM_RECORD];
+    bool formed;
+    int i;
+    for (i = 0; i < 8; i++) r.cycle = r.cycle << 8 | bytes[i];
+    r.kind = (uint8_t)(r.cycle >> 62);
+    r.cycle &= ((uint64_t)1 << 62) - 1;
+    if (r.kind == PM_PIN) {
+        r.pin = bytes[8];
+        r.enable = bytes[9] >> 7 & 1;
+        r.value = bytes[9] >> 6 & 1;
+    } else if (r.kind == PM_FLAGS) {
+        r.flags = bytes[8];
+        r.lines = bytes[9] >> 3;
+    } else if (r.kind == PM_TRIGGER) {
+        r.trigger = bytes[8] >> 4;
+        r.id = (uint8_t)(bytes[8] << 4 | bytes[9] >> 4);
+    } else {
+        r.timeout = bytes[9];
+    }
+    pm_write_record(again, r);
+    formed = r.kind != PM_WATCHDOG || r.timeout == PM_INTERRUPT || r.timeout == PM_RESTART;
+    for (i = 0; i < PM_RECORD; i++) formed = formed && again[i] == bytes[i];
+    return formed ? r : malformed;
 }
 
 /* A door under a service rule: rule one, or with terms.two rule two. It comes from paddlemauve_door_one or paddlemauve_door_two and is replaced by what each

@@ -63,21 +63,28 @@ int main(void) {
     assert(w.report.number == 0 && w.watchdog.moving.control.wde);
     w = paddlemauve_watchdog_advance(w.watchdog, 256000, area);
     assert(w.report.number == 0 && w.report.written == sizeof reset && memcmp(bytes, reset, sizeof reset) == 0);
+    struct pm_record timeout = pm_read_record(bytes);
+    assert(timeout.kind == PM_WATCHDOG && timeout.cycle == 256000 && timeout.timeout == PM_RESTART);
     w = paddlemauve_watchdog_next(w.watchdog, 256000);
     assert(w.report.what == PM_EVENT_AT && w.report.value == 512000);
 
     /* T2 by one list of writes, on a fresh timer. */
     uint8_t list[4 * PM_WRITE_BYTES];
-    pm_pack_write(list, 0x44, 0x02, 0);
-    pm_pack_write(list + PM_WRITE_BYTES, 0x47, 124, 0);
-    pm_pack_write(list + 2 * PM_WRITE_BYTES, 0x48, 200, 0);
-    pm_pack_write(list + 3 * PM_WRITE_BYTES, 0x45, 0x03, 0);
+    assert(pm_pack_write(list, 0x44, 0x02, 0) && pm_pack_write(list + PM_WRITE_BYTES, 0x47, 124, 0));
+    assert(pm_pack_write(list + 2 * PM_WRITE_BYTES, 0x48, 200, 0) && pm_pack_write(list + 3 * PM_WRITE_BYTES, 0x45, 0x03, 0));
     struct pm_ended ended = paddlemauve_writes(paddlemauve_start(pm_m328p[0].config).timer.state, (struct pm_list){list, sizeof list}, area);
     assert(ended.done == 4 && ended.reply.number == 0 && ended.reply.what == PM_NOTHING && ended.reply.written == 0);
     next = paddlemauve_call(&ended.timer, (struct pm_asked){.kind = PM_NEXT, .cycle = 0}, area);
     assert(next.what == PM_EVENT_AT && next.value == 8000);
     ended = paddlemauve_writes(ended.timer.state, (struct pm_list){list, sizeof list - 1}, area);
     assert(ended.done == 0 && ended.reply.number == PM_LIST_LENGTH);
+
+    /* The largest item, and writes that are none: the bytes stay. */
+    uint8_t item[PM_WRITE_BYTES], largest[PM_WRITE_BYTES];
+    memset(largest, 0xff, sizeof largest);
+    assert(pm_pack_write(item, 0x3ff, 0xff, ((uint64_t)1 << 62) - 1) && memcmp(item, largest, sizeof item) == 0);
+    assert(!pm_pack_write(item, 0x400, 0, 0) && !pm_pack_write(item, 0x447, 0, 0) && !pm_pack_write(item, 0x47, 0, (uint64_t)1 << 62));
+    assert(memcmp(item, largest, sizeof item) == 0);
 
     puts("T1 and T2 from C");
     return 0;

@@ -55,6 +55,11 @@ impl WritesLine {
         let list = words.get(1).map(|word| words::bytes(word, 250)).transpose()?;
         Ok(Self { area, list })
     }
+
+    /// Whether its list is of ten bytes an item.
+    pub fn of_tens(&self) -> bool {
+        self.list.as_ref().is_none_or(|bytes| bytes.len() % 10 == 0)
+    }
 }
 
 /// The list that `item` lines make up.
@@ -70,12 +75,11 @@ impl Items {
         Ok(format!("ok items={}", self.0.len()))
     }
 
-    /// The items of a line: its own, or those made up, which are then gone. Nothing where its bytes are no items.
-    pub fn of(&mut self, line: &WritesLine) -> Option<Vec<Item>> {
+    /// The items of a line: its own, or those made up, which are then gone.
+    pub fn of(&mut self, line: &WritesLine) -> Vec<Item> {
         match &line.list {
-            Some(bytes) if bytes.len() % 10 != 0 => None,
-            Some(bytes) => Some(bytes.chunks(10).map(Item::of).collect()),
-            None => Some(std::mem::take(&mut self.0)),
+            Some(bytes) => bytes.chunks(10).map(Item::of).collect(),
+            None => std::mem::take(&mut self.0),
         }
     }
 }

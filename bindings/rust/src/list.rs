@@ -1,6 +1,6 @@
 //! A list of register writes in one call.
 
-use crate::answer::{Answer, Refusal};
+use crate::answer::{Answer, Call, Refusal};
 use crate::raw;
 use crate::timer::Timer;
 
@@ -30,16 +30,28 @@ pub struct Written {
     pub why: Why,
 }
 
+impl Why {
+    /// Why a list ends with an answer, or nothing where it goes on.
+    fn of(answer: Answer) -> Option<Self> {
+        match answer {
+            Answer::Refused(why) => Some(Self::Refused(why)),
+            Answer::Paused(sync, _) => Some(Self::Paused(sync)),
+            _ => None,
+        }
+    }
+}
+
 const LAST_ADDRESS: u16 = (1 << 10) - 1;
 const LAST_CYCLE: u64 = (1 << 62) - 1;
 
 impl Write {
-    /// The item's ten bytes: address (10 bits), value (8), cycle (62). No register has the last address, which stands
-    /// for every larger one.
-    fn packed(&self) -> [u8; 10] {
-        let address = self.address.min(LAST_ADDRESS) as u128;
-        let bytes = (address << 70 | (self.value as u128) << 62 | self.cycle as u128).to_be_bytes();
-        bytes[6..].try_into().expect("ten of sixteen bytes")
+    /// The item's ten bytes: address (10 bits), value (8), cycle (62). Nothing where it has no room for the write.
+    fn packed(&self) -> Option<[u8; 10]> {
+        if self.address > LAST_ADDRESS || self.cycle > LAST_CYCLE {
+            return None;
+        }
+        let bits = (self.address as u128) << 70 | (self.value as u128) << 62 | self.cycle as u128;
+        Some(bits.to_be_bytes()[6..].try_into().expect("ten of sixteen bytes"))
     }
 }
 
@@ -62,19 +74,19 @@ impl Timer {
     /// # Ok::<(), paddlemauve::Refusal>(())
     /// ```
     pub fn writes(&mut self, list: &[Write], area: &mut [u8]) -> Written {
-        // A cycle of more than 62 bits has no place in an item: the list ends before it, as the single call refuses it.
-        let fits = list.iter().position(|w| w.cycle > LAST_CYCLE).unwrap_or(list.len());
-        let bytes: Vec<u8> = list[..fits].iter().flat_map(Write::packed).collect();
+        let bytes: Vec<u8> = list.iter().map_while(Write::packed).flatten().collect();
         // SAFETY: the timer came from the library and only the library has changed it, so it is valid; list and area are
         // lent for the call alone.
         let ended = unsafe { raw::paddlemauve_writes(self.raw.timer, raw::List::of(&bytes), raw::Area::of(area)) };
         self.raw = ended.timer;
-        let why = match Answer::of(&ended.reply) {
-            Answer::Refused(why) => Why::Refused(why),
-            Answer::Paused(sync, _) => Why::Paused(sync),
-            _ if fits < list.len() => Why::Refused(Refusal::CycleTooLarge),
-            _ => Why::AllDone,
-        };
-        Written { done: ended.done as usize, written: ended.reply.written as usize, why }
+        let (done, mut written) = (ended.done as usize, ended.reply.written as usize);
+        let mut why = Why::of(Answer::of(&ended.reply));
+        if let (None, Some(write)) = (why, list.get(done)) {
+            // No item has room for this write: its advance stands, unless the cycle is too large, and no register has the address.
+            let advanced = self.call(Call::Advance, write.cycle, &mut area[written..]);
+            written += advanced.written;
+            why = Why::of(advanced.answer).or(Some(Why::Refused(Refusal::Address)));
+        }
+        Written { done, written, why: why.unwrap_or(Why::AllDone) }
     }
 }

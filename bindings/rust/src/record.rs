@@ -1,5 +1,7 @@
 //! The records that calls write: ten bytes each, from the start of the area.
 
+use crate::answer::Refusal;
+
 /// The bytes of one record.
 pub const RECORD: usize = 10;
 
@@ -25,8 +27,9 @@ pub struct Record {
 }
 
 impl Record {
-    /// The record of ten bytes: kind (2 bits), cycle (62), body (16), most significant first.
-    pub fn read(bytes: &[u8; RECORD]) -> Self {
+    /// The record of ten bytes: kind (2 bits), cycle (62), body (16), most significant first. Bytes that no call writes, with
+    /// a filler bit set or a watchdog's body that is neither 1 nor 2, are refused as in a dump.
+    pub fn read(bytes: &[u8; RECORD]) -> Result<Self, Refusal> {
         let word = bytes[..8].iter().fold(0, |word, &b| word << 8 | b as u64);
         let body = u16::from_be_bytes([bytes[8], bytes[9]]);
         let high = bytes[8];
@@ -36,7 +39,12 @@ impl Record {
             2 => Event::Trigger { trigger: high >> 4, id: (body >> 4) as u8 },
             _ => Event::Watchdog { reset: body == 2 },
         };
-        Self { cycle: word & (1 << 62) - 1, event }
+        let record = Self { cycle: word & (1 << 62) - 1, event };
+        if record.bytes() == *bytes {
+            Ok(record)
+        } else {
+            Err(Refusal::Record)
+        }
     }
 
     /// Its ten bytes, as a call would write them: of a cycle the low 62 bits.
@@ -58,6 +66,10 @@ impl Record {
 }
 
 /// The records of the bytes that a call wrote, `&area[..written]`.
+///
+/// # Panics
+/// Where no call writes such bytes; [`Record::read`] takes any.
 pub fn records(written: &[u8]) -> impl Iterator<Item = Record> + '_ {
-    written.chunks_exact(RECORD).map(|r| Record::read(r.try_into().expect("chunks of ten bytes")))
+    let read = |r: &[u8]| Record::read(r.try_into().expect("chunks of ten bytes"));
+    written.chunks_exact(RECORD).map(move |r| read(r).expect("a call writes whole records"))
 }

@@ -14,7 +14,7 @@ use crate::{layout, raw};
 /// let mut ring = Ring::new();
 /// let low = Record { cycle: 2048, event: Event::Pin { pin: 12, enable: true, value: false } };
 /// assert_eq!(ring.add(&mut area, &low.bytes())?, 0, "the place that it took");
-/// assert_eq!(ring.held(&area).map(|bytes| Record::read(bytes)).next(), Some(low));
+/// assert_eq!(ring.held(&area).map(Record::read).next(), Some(Ok(low)));
 /// ring.release(&area, 1)?;
 /// assert_eq!(ring.count(), 0);
 /// # Ok::<(), paddlemauve::Refusal>(())

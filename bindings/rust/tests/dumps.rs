@@ -64,7 +64,8 @@ fn dumps_are_their_lines() {
             records.push(Record { cycle, event: event(&mut rng) });
         }
         let log = bytes(&records);
-        assert!(log.chunks(RECORD).map(|r| Record::read(r.try_into().expect("ten bytes"))).eq(records.iter().copied()));
+        let read = log.chunks(RECORD).map(|r| Record::read(r.try_into().expect("ten bytes")));
+        assert!(read.eq(records.iter().copied().map(Ok)));
         assert_eq!(dump(&log).map(|d| String::from_utf8(d).expect("text")), Ok(lines(&records)));
         let mut short = vec![0xa5; dump_room(log.len()) - 1];
         assert_eq!(dump_into(&log, &mut short), Ok(None));
@@ -85,4 +86,18 @@ fn a_log_that_is_none_is_refused() {
     refuses(&[0xc0, 0, 0, 0, 0, 0, 0, 2, 0, 3], Refusal::Record);
     refuses(&bytes(&[pin(3), pin(2)]), Refusal::RecordOrder);
     refuses(&bytes(&[pin(1 << 48)]), Refusal::RecordTooLate);
+}
+
+/// Of every kind and body: what is no record to the dump is none to [`Record::read`].
+#[test]
+fn a_record_is_read_where_a_dump_takes_it() {
+    let mut formed = [0; 4];
+    for (kind, body) in (0..4u8).flat_map(|kind| (0..=u16::MAX).map(move |body| (kind, body))) {
+        let [high, low] = body.to_be_bytes();
+        let bytes = [kind << 6, 0, 0, 0, 0, 0, 0, 2, high, low];
+        let read = Record::read(&bytes);
+        assert_eq!(read.map(|r| r.bytes()), dump(&bytes).map(|_| bytes), "kind {kind}, body {body:04x}");
+        formed[kind as usize] += read.is_ok() as usize;
+    }
+    assert_eq!(formed, [1 << 10, 1 << 13, 1 << 12, 2]);
 }

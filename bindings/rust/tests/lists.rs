@@ -53,6 +53,24 @@ fn a_list_ends_where_a_call_is_turned_away() {
         |list: &[Write], done, why| assert_eq!(alike(list, 110), Written { done, written: 0, why: Why::Refused(why) });
     refused(&[at(10, 0x47, 1), at(9, 0x47, 1)], 1, Refusal::CyclePassed);
     refused(&[at(0, 0x48, 1), at(0, 0x1ff, 1)], 1, Refusal::Address);
-    refused(&[at(0, 0x48, 1), at(0, 0xffff, 1)], 1, Refusal::Address);
     refused(&[at(0, 0x48, 1), at(1 << 62, 0x48, 1), at(0, 0x48, 1)], 1, Refusal::CycleTooLarge);
+}
+
+/// An item has ten bits for the address and 62 for the cycle: what is larger is not cut to the register and the cycle of its low bits.
+#[test]
+fn a_write_that_no_item_has_room_for() {
+    let runs = [at(0, 0x47, 200), at(0, 0x45, 0x01)];
+    for address in [0x400, 0x447, 0xffff] {
+        let list = [runs[0], runs[1], at(300, address, 9), at(300, 0x47, 9)];
+        let ended = alike(&list, 110);
+        assert_eq!((ended.done, ended.why), (2, Why::Refused(Refusal::Address)));
+        assert!(ended.written > 0, "its advance stands");
+        assert!(matches!(alike(&list, 9), Written { done: 2, written: 0, why: Why::Paused(_) }));
+    }
+    for cycle in [1 << 62, (1 << 62) + 300, u64::MAX] {
+        let list = [runs[0], runs[1], at(cycle, 0x47, 9), at(300, 0x47, 9)];
+        assert_eq!(alike(&list, 110), Written { done: 2, written: 0, why: Why::Refused(Refusal::CycleTooLarge) });
+    }
+    let last = [at((1 << 62) - 1, 0x3ff, 0xff)];
+    assert_eq!(alike(&last, 110).why, Why::Refused(Refusal::Address));
 }

@@ -66,7 +66,7 @@ use Rattle.door_lines.specs.Rules.{dueLine, ruledOf, takenOf as door-takenOf, e
 use Rattle.list_lines.specs.Items.{addedOf, itemRead, itemLine}
 use Rattle.log_lines.specs.Logged.{heldOf as log-heldOf, placedBy, addOf, releaseOf, namedOf as log-namedOf, logLine}
 use Rattle.digits.specs.Spelling.{paired as digits-paired, ofPairs, spelt, wordOf as digits-wordOf, bytesOf as digits-bytesOf}
-use Rattle.list_lines.specs.Lists.{reasonOf as list-reasonOf, turnedAway, endedOf, toldOf as list-toldOf, onTimer, ofWord, writesLine}
+use Rattle.list_lines.specs.Lists.{reasonOf as list-reasonOf, toldOf as list-toldOf, onTimer, ofBytes, ofWord, writesLine}
 use Rattle.items.specs.Items.{itemIn, itemsIn}
 use Rattle.writes.specs.Writes.{wrote, worked as writes-worked, listed, listing}
 use Rattle.log.specs.Log.{added, released}
@@ -77,5 +77,5 @@ use Rattle.bench_lines.specs.Steps.{endedOf as bench-endedOf, heardOf as
 use Rattle.bench_lines.specs.Readings.{scriptOf, answersOf, Readings}
 
 pub readings-hold : Readings
-unfolding span climb size odd units round neg mul lt le eq toBits codes digits number before firstFrom onto begun words countWhy same placeIn splitAt digitOf allDigits extended wellFormed limited numeralOf nextOf nearest decimalOf plainOf signedOf voltsOf pair pattern flag reasonOf unreadableOf linesOf bytesOf recordOf recordsOf numberOf choiceRule widthRule layoutRule compareRule controls owned addressRule oneBit flagged flagsOf flagRule pinsOf pinRule accepted pairAt controlAt placeOf also has distinct within freshOf startedOf captures captured ticksOn topOf falls hits overflows loads nextCount nextDirection atTop atZero rising eventsAt raised raises line lines flagEntry triggerEntry flagLogOf tickBy linear flagsAhead space ahead gapAt gap moved nextAt nextFlags counter-nextOf modeAt kindAt sourceAt fixedAt maxAt togglesAt divisorAt chosen modeOf waveOf divisorOf heldOf runningOf pinEntry recorded onPin acted levelOf matched bottomed matchesOf bottomsOf outputs reapplied strobed one ticks due start syncTo syncOf passed synced advanced immediate compareTo wordOf packed controlOf peeked readValue readTimer committed commit stored configured drivenBy driven storedA storedB strobes writtenA writtenB written enabledAt channelOf settingAt ticksAt cycleAt edgeCaptures edgeTicks outputCaptures asks works says timer-before worked timer-moved performed refusalOf answered isDue late refusal position earliest swapRemoved put scheduled removed popped isOf registerAt placeAt storedOf castOf aimOf boardTo boardAll ownTold prescaled reached lowest allTold aimed told periodOf timedOut timeout tick wdtcsr-linear gapOf isOpen valueOf takes tooLong controlTo windowTo stoppedAt wdtcsr-written oscillator-one oscillator-ticks quiet skips oscillator-due oscillator-start oscillator-syncOf oscillator-passed runOf oscillator-synced oscillator-nextAt oscillator-nextOf oscillator-isDue early watchdog-refusalOf watchdog-moved watchdog-performed watchdog-answered finite usable rail clamped tenths analogLevel overridden pulled input settled opposed pins-refusal answer door-accepted rearms dueUnder edgeTaken setTo door-late edged filled hexes display-bytesOf display-recordsOf cycleOf display-flagsOf leftBy saidOf unlessRefused comparedOf threeOf drivenOf drivesOf levelsOf countOf countsOf outputsOf display-linesOf display-states-flagsOf haltsOf clockOf stateOf thirdOf configOf presetLine namedOf optionalOf writtenOf setOf occurs partsFrom compareOf takenOf keys-filled sayingOf paired stepped presetKeys connectedOf pin-takenOf driveOf pinOf resolvedLine refusedLine answerLine pinOfLine argumentsOf byteOf whenOf askedOf untilOf eventLine popLine atAnswer calledOf schedOf timer-argumentsOf firstOf secondOf callOf timer-askedOf toldOf heardOf madeOf timerLine unlessNone shiftLine wdt-argumentsOf wdt-valueOf wdt-cycleOf sizeOf wdt-callOf wdt-askedOf wdt-toldOf readyOf wdt-heardOf wdtLine eventOf wdt-leftBy wdt-saidOf wdt-unlessRefused bitsOf wdt-stateOf board-argumentsOf board-firstOf board-secondOf board-thirdOf lastOf idOf orderOf readOf board-askedOf spoiltOf board-toldOf orderLine nextsOf board-recordsOf door-argumentsOf moreOf door-askedOf ruleOf dueLine ruledOf door-takenOf edgeOn door-heardOf doorLine addedOf itemRead itemLine log-heldOf placedBy addOf releaseOf log-namedOf logLine digits-paired ofPairs spelt digits-wordOf digits-bytesOf list-reasonOf turnedAway endedOf list-toldOf onTimer ofWord writesLine itemIn itemsIn wrote writes-worked listed listing added released whoseOf recordedOf bench-namedOf wordedOf orderedOf answeredOf bench-endedOf bench-heardOf bench-firstOf thenOf stepOf scriptOf answersOf
+unfolding span climb size odd units round neg mul lt le eq toBits codes digits number before firstFrom onto begun words countWhy same placeIn splitAt digitOf allDigits extended wellFormed limited numeralOf nextOf nearest decimalOf plainOf signedOf voltsOf pair pattern flag reasonOf unreadableOf linesOf bytesOf recordOf recordsOf numberOf choiceRule widthRule layoutRule compareRule controls owned addressRule oneBit flagged flagsOf flagRule pinsOf pinRule accepted pairAt controlAt placeOf also has distinct within freshOf startedOf captures captured ticksOn topOf falls hits overflows loads nextCount nextDirection atTop atZero rising eventsAt raised raises line lines flagEntry triggerEntry flagLogOf tickBy linear flagsAhead space ahead gapAt gap moved nextAt nextFlags counter-nextOf modeAt kindAt sourceAt fixedAt maxAt togglesAt divisorAt chosen modeOf waveOf divisorOf heldOf runningOf pinEntry recorded onPin acted levelOf matched bottomed matchesOf bottomsOf outputs reapplied strobed one ticks due start syncTo syncOf passed synced advanced immediate compareTo wordOf packed controlOf peeked readValue readTimer committed commit stored configured drivenBy driven storedA storedB strobes writtenA writtenB written enabledAt channelOf settingAt ticksAt cycleAt edgeCaptures edgeTicks outputCaptures asks works says timer-before worked timer-moved performed refusalOf answered isDue late refusal position earliest swapRemoved put scheduled removed popped isOf registerAt placeAt storedOf castOf aimOf boardTo boardAll ownTold prescaled reached lowest allTold aimed told periodOf timedOut timeout tick wdtcsr-linear gapOf isOpen valueOf takes tooLong controlTo windowTo stoppedAt wdtcsr-written oscillator-one oscillator-ticks quiet skips oscillator-due oscillator-start oscillator-syncOf oscillator-passed runOf oscillator-synced oscillator-nextAt oscillator-nextOf oscillator-isDue early watchdog-refusalOf watchdog-moved watchdog-performed watchdog-answered finite usable rail clamped tenths analogLevel overridden pulled input settled opposed pins-refusal answer door-accepted rearms dueUnder edgeTaken setTo door-late edged filled hexes display-bytesOf display-recordsOf cycleOf display-flagsOf leftBy saidOf unlessRefused comparedOf threeOf drivenOf drivesOf levelsOf countOf countsOf outputsOf display-linesOf display-states-flagsOf haltsOf clockOf stateOf thirdOf configOf presetLine namedOf optionalOf writtenOf setOf occurs partsFrom compareOf takenOf keys-filled sayingOf paired stepped presetKeys connectedOf pin-takenOf driveOf pinOf resolvedLine refusedLine answerLine pinOfLine argumentsOf byteOf whenOf askedOf untilOf eventLine popLine atAnswer calledOf schedOf timer-argumentsOf firstOf secondOf callOf timer-askedOf toldOf heardOf madeOf timerLine unlessNone shiftLine wdt-argumentsOf wdt-valueOf wdt-cycleOf sizeOf wdt-callOf wdt-askedOf wdt-toldOf readyOf wdt-heardOf wdtLine eventOf wdt-leftBy wdt-saidOf wdt-unlessRefused bitsOf wdt-stateOf board-argumentsOf board-firstOf board-secondOf board-thirdOf lastOf idOf orderOf readOf board-askedOf spoiltOf board-toldOf orderLine nextsOf board-recordsOf door-argumentsOf moreOf door-askedOf ruleOf dueLine ruledOf door-takenOf edgeOn door-heardOf doorLine addedOf itemRead itemLine log-heldOf placedBy addOf releaseOf log-namedOf logLine digits-paired ofPairs spelt digits-wordOf digits-bytesOf list-reasonOf list-toldOf onTimer ofBytes ofWord writesLine itemIn itemsIn wrote writes-worked listed listing added released whoseOf recordedOf bench-namedOf wordedOf orderedOf answeredOf bench-endedOf bench-heardOf bench-firstOf thenOf stepOf scriptOf answersOf
 readings-hold = record { own = λ room items first second. refl; list = λ room items first second. refl; story = λ room items first second. refl; others = λ room items first second. refl }

@@ -104,6 +104,7 @@ others =
     ∷ ("log add 00000000000000020500", "ok held=1 place=0\n")
     ∷ ("log release 2", "refused 20\n")
     ∷ ("item 45 1 0", "ok items=1\n")
+    ∷ ("writes 30 114040000000000000", "refused 12\n")
     ∷ ("preset m328p.timer0", "ok config\n")
     ∷ ("writes 30 1140400000000000000011C14000000000000001", "ok done=2 why=all bytes=30 records=400000000000000106008000000000000001100080000000000000012000\n")
     ∷ ("wdt new", "ok config\n")
@@ -112,7 +113,7 @@ others =
     ∷ ("board new", "ok config\n")
     ∷ ("board write 45 01 0 110", "ok value=- next=1,none,none flags=06,-,- bytes=0,0,0 records=-,-,-\n")
     ∷ ("record", "ok recording\n")
-    ∷ ("frob 1", "error line 17: unknown command\n")
+    ∷ ("frob 1", "error line 18: unknown command\n")
     ∷ []
 
 -- every one is answered so

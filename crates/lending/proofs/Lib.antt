@@ -1,1 +1,2 @@
+pub mod Lender
 pub mod Walk

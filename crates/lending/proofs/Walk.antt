@@ -89,24 +89,24 @@ abbrev stayed : Stays (lent.ended .signature .params) (lent.ended .kept)
 stayed = (stay-ref (0 ∷ []) tt (plain (λ _. T.the-row)), (stay-none (λ _. N.the-row) yes, (gave-slice (1 ∷ []) tt (plain (λ _. u8)), tt)))
 
 -- the machine values
-abbrev timer-of : Timer → Val
+abbrev pub timer-of : Timer → Val
 timer-of = LL.val T.the-type T′.the-laws
 
-abbrev cycle-of : Cycle → Val
+abbrev pub cycle-of : Cycle → Val
 cycle-of = LL.val N.the-type N′.the-laws
 
-abbrev told-of : Told → Val
+abbrev pub told-of : Told → Val
 told-of = LL.val E.the-type E′.the-laws
 
 -- what the lent function returns of the core's outcome, and the outcome again
 abbrev told : Outcome → Told
 told o = record { answer = o .answer; written = o .written }
 
-abbrev outcome : Timer → Told → Outcome
+abbrev pub outcome : Timer → Told → Outcome
 outcome t r = record { answer = r .answer; timer = t; written = r .written }
 
 -- the outcome's machine type and value, field by field
-abbrev outcome-tys : Tys
+abbrev pub outcome-tys : Tys
 outcome-tys = tcons A′.mir (tcons T′.mir (tcons (tyInt w64) tnil))
 
 abbrev outcome-vals : Outcome → Vals
@@ -135,14 +135,14 @@ told-is o v is = LL.owes E.the-type E′.the-laws (told o) (LL.owed D.the-type D
 module _ (Needs : Timer → Cycle → List ℕ → Type 0) (Gives : Timer → Cycle → List ℕ → Outcome → List ℕ → Type 0) where
   module _ {M : Type 1} (𝓤 : URA M) where
     -- the two contracts
-    abbrev coreClauses : Clauses 𝓤 core.ended
+    abbrev pub coreClauses : Clauses 𝓤 core.ended
     coreClauses κs a = record {
       ghost = Unit {0};
       requires = λ _. fact 𝓤 (Needs (a .0) (a .1 .0) (now (a .1 .1 .0)));
       ensures = λ _ r e. fact 𝓤 (Gives (a .0) (a .1 .0) (now (a .1 .1 .0)) r (now (e .1 .1 .0)));
     }
 
-    abbrev lentClauses : Clauses 𝓤 lent.ended
+    abbrev pub lentClauses : Clauses 𝓤 lent.ended
     lentClauses κs a = record {
       ghost = Unit {0};
       requires = λ _. fact 𝓤 (Needs (now (a .0)) (a .1 .0) (now (a .1 .1 .0)));
@@ -155,7 +155,7 @@ module _ (Needs : Timer → Cycle → List ℕ → Type 0) (Gives : Timer → Cy
     abbrev pub lentSpec : (H : Heap 𝓤) (A : Atoms 𝓤) → Spec 𝓤 lent.signature
     lentSpec H A = closing 𝓤 H A lent.ended lentClauses
 
-    abbrev Core : (H : Heap 𝓤) (A : Atoms 𝓤) → Contract 𝓤
+    abbrev pub Core : (H : Heap 𝓤) (A : Atoms 𝓤) → Contract 𝓤
     Core H A = tripleOf 𝓤 H A core.signature (coreSpec H A)
 
   module _ {M : Type 1} (𝓤 : URA M) (H : Heap 𝓤) (A : Atoms 𝓤) (W : Given 𝓤 H A) (κ κ′ : Lft) (q q′ : Share) (b o : ℕ) (γ : GName) (h : Timer) (n : Cycle) (n-is : Is N.the-row n (cycle-of n ∷ [])) (b′ o′ : ℕ) (γ′ : GName) (ys : List ℕ) where

@@ -1,5 +1,7 @@
 // Advance and reset on a lent timer: the core by value, and its timer stored.
 
+pub mod local;
+
 use answers::Answer;
 use counter::state::Timer;
 use time::units::Cycle;

@@ -1,5 +1,5 @@
 -- How long the answer of a list's line, or an item's, may be.
-use Prim.Native.Nat.{ℕ, _+_, _*_, _-_, _^_, _≤_}
+use Prim.Native.Nat.{ℕ, _+_, _*_, _-_, _%_, _^_, _≤_}
 use native.Mathlib.Omega.{arith}
 use mathlib.Core.List.{List}
 use lib.Dec.{eqb, ltb}
@@ -19,7 +19,7 @@ use Rattle.writes.specs.declared.Why.{Why}
 use Rattle.writes.specs.declared.Why.the-variants as why
 use Rattle.timer_lines.specs.declared.socket.Socket.{Socket}
 use Rattle.list_lines.specs.Items.{Added, itemOf, addedOf, itemRead, itemLine}
-use Rattle.list_lines.specs.Lists.{Lined, reasonOf, reasonIn, turnedAway, endedOf, toldOf, workedOf, onTimer, ofItems, ofWord, writesLine}
+use Rattle.list_lines.specs.Lists.{Lined, reasonOf, reasonIn, endedOf, toldOf, workedOf, onTimer, ofItems, ofBytes, ofWord, writesLine}
 use Rattle.list_lines.specs.Claims.{Short, ShortItem}
 use Rattle.list_lines.proofs.Lengths.{listing-area}
 
@@ -30,12 +30,11 @@ reason-short (why.Paused cycle f) = numbered _ _ (cycle .0) (omega arith)
 reason-short (why.Refused n) = numbered _ _ n (omega arith)
 
 ended-short : (done : ℕ) (w : Why) (area : List ℕ) (written : ℕ) → Upto (105 + 2 * length area) (endedOf done w area written)
-unfolding endedOf
 ended-short done w area written =
     let h = number-short done in
     let k = reason-short w in
     let l = records-short area written in
-    either (Upto (105 + 2 * length area)) (turnedAway w) (said _ (omega arith)) (simp (length-append, codes-length) (omega arith))
+    simp (length-append, codes-length) (omega arith)
 
 told-short : (s : Socket) (n : ℕ) (x : Listed) → length (toldOf s n x .bytes) ≤ 105 + 2 * length (x .told .area)
 unfolding toldOf
@@ -60,9 +59,13 @@ items-short : (s : Socket) (n nth : ℕ) (size : Taken) (items area : List ℕ) 
 unfolding ofItems
 items-short s n nth size items area h = either Brief (eqb (size .next .why) 0) (timer-short s n 0 (take (10 * n) items) (size .value) area h) (omega (arith, unreadable-short nth (size .next .why)))
 
+bytes-short : (s : Socket) (n : ℕ) (list : List ℕ) (size : ℕ) (area : List ℕ) → size ≤ 4096 → Brief (ofBytes s n list size area)
+unfolding ofBytes
+bytes-short s n list size area h = either Brief (eqb (length list % 10) 0) (timer-short s n n list size area h) (said _ (omega arith))
+
 word-short : (s : Socket) (n nth : ℕ) (size : Taken) (x : Spelt) (area : List ℕ) → size .value ≤ 4096 → Brief (ofWord s n nth size x area)
 unfolding ofWord
-word-short s n nth size x area h = either Brief (eqb (x .read .why) 0) (timer-short s n n (x .bytes) (size .value) area h) (omega (arith, unreadable-short nth (x .read .why)))
+word-short s n nth size x area h = either Brief (eqb (x .read .why) 0) (bytes-short s n (x .bytes) (size .value) area h) (omega (arith, unreadable-short nth (x .read .why)))
 
 pub short : Short
 unfolding writesLine

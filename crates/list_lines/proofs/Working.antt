@@ -1,5 +1,5 @@
 -- What a list of writes tells, as its line does.
-use Prim.Native.Nat.{ℕ, _*_, _-_, _≤_, _<_}
+use Prim.Native.Nat.{ℕ, _*_, _-_, _%_, _≤_, _<_}
 use mathlib.Core.Bool.{Bool, true, false, cond}
 use mathlib.Core.List.{List, _++_}
 use mathlib.Core.Path.{_≡_, refl, sym, ap, _∙_}
@@ -19,7 +19,7 @@ use Rattle.writes.specs.declared.Written.{Written}
 use Rattle.writes.specs.Writes.{Listed, Lists}
 use Rattle.timer_lines.specs.declared.socket.Socket.{Socket}
 use Rattle.list_lines.specs.declared.worked.Left.{Left}
-use Rattle.list_lines.specs.Lists.{saying, endedOf, toldOf, workedOf, behind, onTimer, ofItems, ofWord, writesLine, Leaves}
+use Rattle.list_lines.specs.Lists.{saying, endedOf, toldOf, workedOf, behind, onTimer, ofItems, ofBytes, ofWord, writesLine, Leaves}
 
 module _ (s : Socket) (n : ℕ) (x : Listed) (w : Written) (after old new : List ℕ) (from at : ℕ) (k : n ≤ 400) (g : Lists x w after) where
   -- the area changed beyond what was written
@@ -61,6 +61,11 @@ module _ (s : Socket) (n : ℕ) (area old new : List ℕ) (from at : ℕ) (v : V
   unfolding ofWord
   word-unread nth size x r e h p = rw (← e, ne-eqb (r .why) 0 h) (says _ p)
 
+  -- or that are no list
+  pub not-tens : (list : List ℕ) (size : ℕ) → (length list % 10 ≡ 0 → ⊥) → Puts old from new at (text "refused 12") → Leaves (ofBytes s n list size area) old from new area (record { socket = s; items = n; at = at; written = 0 })
+  unfolding ofBytes
+  not-tens list size h p = rw (ne-eqb (length list % 10) 0 h) (says _ p)
+
 module _ (s : Socket) (n left size : ℕ) (list area : List ℕ) where
   timer-is : s .ready ≡ true → onTimer s n left list size area ≡ behind (workedOf s left list size) (drop size area)
   unfolding onTimer
@@ -82,10 +87,15 @@ module _ (s : Socket) (n nth : ℕ) (area old new : List ℕ) (from : ℕ) (afte
   items-worked t u items list e h q l = rw (← e, eq-eqb (t .next .why) 0 h, ← q) l
 
   -- the line's own
-  pub word-worked : (t u : Taken) (x : Spelt) (b : Read) (list : List ℕ) → t ≡ u → b ≡ x .read → b .why ≡ 0 → list ≡ x .bytes → Leaves (onTimer s n n list (t .value) area) old from new after r
+  pub word-worked : (t u : Taken) (x : Spelt) (b : Read) (list : List ℕ) → t ≡ u → b ≡ x .read → b .why ≡ 0 → list ≡ x .bytes → Leaves (ofBytes s n list (t .value) area) old from new after r
       → Leaves (ofWord s n nth u x area) old from new after r
   unfolding ofWord
   word-worked t u x b list e f h q l = rw (← e, ← f, eq-eqb (b .why) 0 h, ← q) l
+
+  -- of ten bytes an item
+  pub bytes-worked : (list : List ℕ) (size : ℕ) → length list % 10 ≡ 0 → Leaves (onTimer s n n list size area) old from new after r → Leaves (ofBytes s n list size area) old from new after r
+  unfolding ofBytes
+  bytes-worked list size h l = rw (eq-eqb (length list % 10) 0 h) l
 
   module _ (line items : List ℕ) (at : ℕ) (one : Cursor) (e : one ≡ exactlyOf line at 1) where
     -- one word

@@ -1,6 +1,6 @@
 -- The answers of a list of register writes (docs/SCRIPT.md, "Lists of register writes"), and the timer that it leaves.
-use Prim.Native.Nat.{ℕ, _*_, _≤_}
-use mathlib.Core.Bool.{Bool, false, cond}
+use Prim.Native.Nat.{ℕ, _*_, _%_, _≤_}
+use mathlib.Core.Bool.{cond}
 use mathlib.Core.List.{List, _++_}
 use mathlib.Core.Path.{_≡_}
 use lib.Dec.{eqb, ltb}
@@ -40,15 +40,9 @@ reasonOf why.AllDone = text " why=all"
 reasonOf (why.Paused cycle f) = text " why=paused cycle=" ++ number (cycle .0)
 reasonOf (why.Refused n) = text " why=refused number=" ++ number n
 
--- was the whole list turned away: "HEX is not of ten bytes an item; nothing has changed"
-unfoldable pub turnedAway : Why → Bool
-turnedAway why.AllDone = false
-turnedAway (why.Paused cycle f) = false
-turnedAway (why.Refused n) = eqb n 12
-
--- "refused 12", or "ok done=K why=.. bytes=B records=HEX"
-unfoldable pub endedOf : ℕ → Why → List ℕ → ℕ → List ℕ
-endedOf done w area written = cond (turnedAway w) (text "refused 12") (text "ok done=" ++ number done ++ reasonOf w ++ recordsOf area written)
+-- "ok done=K why=.. bytes=B records=HEX"
+abbrev pub endedOf : ℕ → Why → List ℕ → ℕ → List ℕ
+endedOf done w area written = text "ok done=" ++ number done ++ reasonOf w ++ recordsOf area written
 
 -- why a list ended, as `writes` tells it
 abbrev pub reasonIn : Listed → Why
@@ -83,10 +77,13 @@ unfoldable pub ofItems : Socket → ℕ → ℕ → Taken → List ℕ → List 
 ofItems s n nth size items area =
     cond (eqb (size .next .why) 0) (onTimer s n 0 (take (10 * n) items) (size .value) area) (saying s n area (unreadableOf nth (size .next .why)))
 
--- the list that the line itself has; the list of lines stays
+-- a list of bytes, the list of lines stays: "12 when the list length is not a multiple of ten, tested before all others and changing nothing" (02, 2.1)
+unfoldable pub ofBytes : Socket → ℕ → List ℕ → ℕ → List ℕ → Lined
+ofBytes s n list size area = cond (eqb (length list % 10) 0) (onTimer s n n list size area) (saying s n area (text "refused 12"))
+
+-- the list that the line itself has
 unfoldable pub ofWord : Socket → ℕ → ℕ → Taken → Spelt → List ℕ → Lined
-ofWord s n nth size x area =
-    cond (eqb (x .read .why) 0) (onTimer s n n (x .bytes) (size .value) area) (saying s n area (unreadableOf nth (x .read .why)))
+ofWord s n nth size x area = cond (eqb (x .read .why) 0) (ofBytes s n (x .bytes) (size .value) area) (saying s n area (unreadableOf nth (x .read .why)))
 
 -- `writes AREA`, or `writes AREA HEX`, from the place after its name; of HEX a line holds 250 bytes at most
 unfoldable pub writesLine : Socket → ℕ → ℕ → List ℕ → ℕ → List ℕ → List ℕ → Lined

@@ -23,7 +23,7 @@ ghost use Rattle.words.specs.Numbers.{nextOf};
 ghost use Rattle.page.specs.Page.{Puts};
 ghost use Rattle.counter.specs.Valid.{Valid};
 ghost use Rattle.digits.specs.Spelling.{bytesOf};
-ghost use Rattle.list_lines.specs.Lists.{turnedAway, reasonOf, endedOf, workedOf, onTimer, ofItems, ofWord, writesLine, Leaves};
+ghost use Rattle.list_lines.specs.Lists.{reasonOf, endedOf, workedOf, onTimer, ofItems, ofWord, writesLine, Leaves};
 
 // The bytes of the longest list that a line can hold.
 const LONGEST: usize = 250;
@@ -34,17 +34,6 @@ pub struct Left {
     pub items: usize,
     pub at: usize,
     pub written: usize,
-}
-
-// Is the whole list turned away, for its length.
-fn turned(why: Why) -> bool
-    ensures { λ r. ⌜ r ≡ turnedAway why ⌝ }
-{
-    match why {
-        Why::Refused(n) => n == 12,
-        Why::AllDone => false,
-        Why::Paused(c, f) => false,
-    }
 }
 
 // Puts why a list ended.
@@ -63,9 +52,6 @@ fn ended(page: &mut Page, from: usize, w: Written, area: &[u8]) -> usize
     ensures { λ r. ⌜ Puts (now (page .entry)) from (now (page .exit)) r (endedOf (w .done) (w .why) (now (area .entry)) (w .written)) ⌝ }
 {
     let why = w.why;
-    if turned(why) {
-        return text(page, from, b"refused 12");
-    }
     let at = number(page, from, b"ok done=", w.done as u64);
     let at = reason(page, at, why);
     records(page, at, area, w.written)
@@ -162,7 +148,7 @@ fn of_items(
     on_timer(s, n, 0, page, from, &all[0..to], size.value as usize, area)
 }
 
-// Works the list that the line itself has.
+// Works the list that the line itself has; 12 where its length is not a multiple of ten, before all others.
 fn of_word(
     s: Socket,
     n: usize,
@@ -188,7 +174,16 @@ fn of_word(
         };
     }
     let to = read.value as usize;
-    on_timer(s, n, n, page, from, &list[0..to], size.value as usize, area)
+    let bytes = &list[0..to];
+    if bytes.len() % 10 != 0 {
+        return Left {
+            socket: s,
+            items: n,
+            at: text(page, from, b"refused 12"),
+            written: 0,
+        };
+    }
+    on_timer(s, n, n, page, from, bytes, size.value as usize, area)
 }
 
 // Answers a writes line from the place after its name, on an area of which the list has as many bytes as it asks for.

@@ -4,6 +4,7 @@ use crate::asked::Asked;
 use crate::socket::Left;
 use crate::socket::Socket;
 use answers::Outcome;
+use counter::state::Timer;
 use display::answer::answer;
 use page::Page;
 use page::number;
@@ -12,12 +13,16 @@ use page::unreadable;
 use room::changed;
 use room::fill;
 use time::units::Cycle;
+use timer::calls::Call;
 use words::FINE;
 ghost use Prim.Native.Nat.{_≤_};
 ghost use mathlib.Core.Path.{_≡_};
 ghost use lib.ListN.{length};
+ghost use Rattle.answers.specs.Answers.{Tells};
 ghost use Rattle.counter.specs.Valid.{Valid};
 ghost use Rattle.page.specs.Page.{Puts};
+ghost use Rattle.passage.specs.Passage.{ticks};
+ghost use Rattle.timer.specs.Calls.{answered};
 ghost use Rattle.timer_lines.specs.Called.{toldOf, calledOf, callLine, Leaves};
 
 // Puts a call's answer, or where the area changed beyond what was written.
@@ -32,6 +37,18 @@ fn told(page: &mut Page, from: usize, o: Outcome, area: &[u8]) -> usize
     answer(page, from, o, area)
 }
 
+// Calls the timer: an advance and a reset are lent it, every other call takes it by value.
+fn call_timer(t: Timer, call: Call, cycle: Cycle, area: &mut [u8]) -> Outcome
+    requires { ⌜ Valid t ⌝ }
+    ensures { λ r. ⌜ Tells (answered ticks t call (cycle .0) (now (area .entry))) r (now (area .exit)) ⌝ }
+{
+    match call {
+        Call::Advance => lending::local::advance(t, cycle, area),
+        Call::Reset => lending::local::reset(t, cycle, area),
+        _ => dispatch::call(t, call, cycle, area),
+    }
+}
+
 // Calls the timer on an area, filled, and puts the answer.
 fn called(s: Socket, asked: Asked, page: &mut Page, from: usize, area: &mut [u8]) -> Left
     requires { ⌜ Valid (s .timer) ⌝ }
@@ -39,7 +56,7 @@ fn called(s: Socket, asked: Asked, page: &mut Page, from: usize, area: &mut [u8]
 {
     fill(area);
     let call = asked.call;
-    let o = dispatch::call(s.timer, call, Cycle(asked.cycle), area);
+    let o = call_timer(s.timer, call, Cycle(asked.cycle), area);
     let timer = o.timer;
     let at = told(page, from, o, area);
     let socket = Socket {

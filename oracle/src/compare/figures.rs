@@ -21,6 +21,9 @@ const WIDE_CHANGES: usize = 16 * (3 + 3) + 9;
 
 const KINDS: [&str; 4] = ["wide", "narrow", "single", "single without WGM"];
 
+/// What the watchdog has to answer somewhere: its refusals, a pause, and each of its records.
+const WATCHDOG: [&str; 7] = ["refused 2", "refused 3", "refused 6", "refused 17", "paused", "interrupt", "reset"];
+
 #[derive(Default)]
 pub struct Figures {
     scripts: usize,
@@ -35,7 +38,9 @@ pub struct Figures {
     records: usize,
     /// The most records that one tick wrote.
     most: usize,
-    /// Commands that were accepted, those on the scheduler and the board by both words; presets; why lines could not be read.
+    /// Of `WATCHDOG`.
+    watchdog: BTreeSet<&'static str>,
+    /// Commands that were accepted, those of two words by both; presets; why lines could not be read.
     accepted: BTreeSet<String>,
     presets: BTreeSet<String>,
     reasons: BTreeSet<String>,
@@ -111,10 +116,12 @@ impl Figures {
         } else if name == "preset" {
             self.presets.insert(second.into());
         }
-        if ["ok", "paused", "state ", "distance ", "board "].iter().any(|start| answer.starts_with(start)) {
-            let command =
-                if ["sched", "board", "door", "log"].contains(&name) { format!("{name} {second}") } else { name.into() };
-            self.accepted.insert(command);
+        if ["ok", "paused", "state ", "distance ", "board ", "wdt "].iter().any(|start| answer.starts_with(start)) {
+            let two = ["sched", "board", "door", "log", "wdt"].contains(&name);
+            self.accepted.insert(if two { format!("{name} {second}") } else { name.into() });
+        }
+        if name == "wdt" {
+            self.watchdog.extend(WATCHDOG.iter().filter(|said| watchdog_says(answer, said)));
         }
     }
 
@@ -138,12 +145,14 @@ impl Figures {
     fn aims(&self) -> Vec<(&'static str, String, bool)> {
         let mut aims = Vec::new();
         let mut aim = |what, which: String, reached| aims.push((what, which, reached));
-        (1..=12).chain([16, 18, 20, 22]).for_each(|n| aim("refusals", n.to_string(), self.refused.contains_key(&n)));
+        let refusals = (1..=12).chain([16, 17, 18, 19, 20, 22]);
+        refusals.for_each(|n| aim("refusals", n.to_string(), self.refused.contains_key(&n)));
         (0..8).for_each(|m| aim("narrow modes", m.to_string(), self.modes.contains_key(&(false, m))));
         (0..16).for_each(|m| aim("wide modes", m.to_string(), self.modes.contains_key(&(true, m))));
         KINDS.iter().for_each(|&kind| aim("layouts", kind.into(), self.timers.contains_key(kind)));
         presets::names().for_each(|name| aim("presets", name.into(), self.presets.contains(name)));
         commands().for_each(|name| aim("commands", name.clone(), self.accepted.contains(&name)));
+        WATCHDOG.iter().for_each(|&said| aim("the watchdog's answers", said.into(), self.watchdog.contains(said)));
         Why::ALL.iter().for_each(|why| aim("reasons", why.to_string(), self.reasons.contains(&why.to_string())));
         aim("paused advances", "any".into(), self.paused > 0);
         aim("ticks of eleven records", "any".into(), self.most == 11);
@@ -178,13 +187,26 @@ fn most_in_a_tick(answer: &str) -> usize {
     cycles.chunk_by(|a, b| a == b).map(<[u64]>::len).max().unwrap_or_default()
 }
 
+/// Whether an answer of the watchdog is the one named; a record ends with its body, 1 or 2.
+fn watchdog_says(answer: &str, said: &str) -> bool {
+    match said {
+        "paused" => answer.starts_with("paused"),
+        "interrupt" => answer.ends_with("0001"),
+        "reset" => answer.ends_with("0002"),
+        _ => answer == said,
+    }
+}
+
 /// Every command of a script that can be accepted.
 fn commands() -> impl Iterator<Item = String> {
     let others = ["config", "preset", "state", "distance", "shift", "pin", "writes", "item", "record"];
     let scheduler = ["sched at", "sched cancel", "sched is", "sched pop", "sched clear"];
     let beside = ["door one", "door two", "door edge", "log add", "log release", "log read"];
     let board = ORDERS.iter().map(|order| order.0).chain(["new", "state"]).map(|name| format!("board {name}"));
-    CALLS.iter().map(|call| call.0).chain(others).chain(scheduler).chain(beside).map(String::from).chain(board)
+    let watchdog =
+        ["new", "state", "advance", "next", "read", "write", "wdr", "serve"].map(|name| format!("wdt {name}"));
+    let single = CALLS.iter().map(|call| call.0).chain(others).chain(scheduler).chain(beside).map(String::from);
+    single.chain(board).chain(watchdog)
 }
 
 fn kind(view: &View) -> &'static str {

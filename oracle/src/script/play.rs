@@ -117,13 +117,15 @@ impl<S: Side> Play<S> {
         self.told(answer.line(&area), &area, answer.bytes())
     }
 
+    /// 12 comes before all others, also where there is no timer.
     fn writes(&mut self, line: &WritesLine) -> String {
+        if !line.of_tens() {
+            return Answer::Refused(12).line(&[]);
+        }
         if self.side.state().is_none() {
             return Answer::NoTimer.line(&[]);
         }
-        let Some(items) = self.items.of(line) else {
-            return Answer::Refused(12).line(&[]);
-        };
+        let items = self.items.of(line);
         let mut area = vec![FILL; line.area];
         let (answer, bytes) = lists::work(&mut self.side, &items, &mut area);
         self.told(answer, &area, bytes)
