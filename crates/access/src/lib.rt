@@ -1,5 +1,7 @@
 // Register access: what a program reads and writes, TIFR and TIMSK among it.
 
+#![tactic(auto)]
+
 ghost use Rattle.std.specs.Prelude.{◌≡◌};
 ghost use Rattle.passage.specs.Passage.{ticks};
 ghost use Rattle.counter.specs.Registers.{is_high};

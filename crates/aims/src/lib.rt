@@ -1,5 +1,7 @@
 // What an order to the board aims at: nothing, GTCCR alone, one timer, or all three.
 
+#![tactic(auto)]
+
 ghost use Rattle.std.specs.Prelude.{◌≡◌};
 ghost use Rattle.aims.specs.Aims.{stored_of, cast_of, aim_at, looked_at, written_at, aim_of};
 
@@ -7,7 +9,7 @@ use m328p::{Id, Place, placed};
 use timer::calls::Call;
 
 // A call on the board: of one timer by its id or by an address, or of all three.
-#[derive(Drop)]
+#[derive(Clone, Copy)]
 pub enum Order {
     Advance(Id),
     Next(Id),
@@ -28,7 +30,7 @@ pub enum Order {
 }
 
 // What reaches all three timers: sleep in a mode, wake, the PRR byte, prescaler resets by GTCCR's bits, and the same after TSM takes a level.
-#[derive(Drop)]
+#[derive(Clone, Copy)]
 pub enum Cast {
     Sleep(u8),
     Wake,
@@ -38,7 +40,7 @@ pub enum Cast {
 }
 
 // An address that is nobody's, GTCCR shown, a timer's own call, or what reaches all three, with GTCCR after it.
-#[derive(Drop)]
+#[derive(Clone, Copy)]
 pub enum Aim {
     Nowhere,
     Shown,

@@ -1,5 +1,7 @@
 // What a call answers, and when it is turned away.
 
+#![tactic(auto)]
+
 pub mod refusals;
 
 ghost use Rattle.std.specs.Prelude.{◌≡◌, ◌≤◌};
@@ -13,7 +15,7 @@ use time::units::Cycle;
 
 // A refusal's number; or done, a byte read, the next event; of an advance the flags of the then next event, 0 for none, and
 // the sync cycle where it stopped.
-#[derive(Drop)]
+#[derive(Clone, Copy)]
 pub enum Answer {
     Refused(u8),
     Done,
@@ -24,7 +26,7 @@ pub enum Answer {
 }
 
 // The answer, the timer after the call, and the bytes written from the area's start.
-#[derive(Drop)]
+#[derive(Clone, Copy)]
 pub struct Outcome {
     pub answer: Answer,
     pub timer: Timer,

@@ -8,7 +8,7 @@ use words::{FINE, NOT_OPENED};
 pub const NO_FILE: i32 = -1;
 
 // A descriptor, and what failed.
-#[derive(Drop)]
+#[derive(Clone, Copy)]
 pub struct File {
     pub fd: i32,
     pub why: u8,

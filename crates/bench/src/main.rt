@@ -1,5 +1,7 @@
 // Reads a script from standard input in pieces, and answers it on standard output.
 
+#![tactic(auto)]
+
 mod files;
 mod pages;
 
@@ -17,7 +19,7 @@ use bench_lines::desk::{Bench, Shelf};
 use libc::STDIN_FILENO;
 use linewise::{LONGEST, Line};
 use list_lines::made::{Items, LIST};
-use log::BYTES;
+use record_ring::BYTES;
 use log_lines::Area;
 use page::{Page, SIZE};
 use room::{FILL, ROOM, Room};
@@ -25,7 +27,7 @@ use session::runs::{Run, lines};
 use session::settles::settled;
 
 // The run, and the descriptor that records go to.
-#[derive(Drop)]
+#[derive(Clone, Copy)]
 struct Desk {
     run: Run,
     fd: i32,

@@ -69,7 +69,7 @@ use Rattle.digits.specs.Spelling.{paired as digits-paired, of_pairs, spelt, word
 use Rattle.list_lines.specs.Lists.{reason_of as list-reasonOf, told_of as list-toldOf, on_timer, of_bytes, of_word, writes_line}
 use Rattle.items.specs.Items.{item_in, items_in}
 use Rattle.writes.specs.Writes.{wrote, worked as writes-worked, listed, listing}
-use Rattle.log.specs.Log.{added, released}
+use Rattle.record_ring.specs.Log.{added, released}
 use Rattle.bench_lines.specs.Lines.{whose_of, recorded_of}
 use Rattle.bench_lines.specs.Named.{named_of as bench-namedOf, worded_of}
 use Rattle.bench_lines.specs.Shelved.{ordered_of, answered_of}

@@ -15,7 +15,7 @@ use Rattle.list_lines.specs.Lists as list
 use Rattle.list_lines.specs.declared.worked.Left as list·left
 use Rattle.log_lines.specs.Logged as log
 use Rattle.log_lines.specs.declared.Left as log·left
-use Rattle.log.specs.declared.Ring.{Ring}
+use Rattle.record_ring.specs.declared.Ring.{Ring}
 use Rattle.timer_lines.specs.Called as timer
 use Rattle.timer_lines.specs.Made as made
 use Rattle.timer_lines.specs.declared.socket.Left as timer·left

@@ -7,7 +7,7 @@ use Rattle.oscillator.specs.State.{fresh, Valid as Watchdog-as-Valid}
 use Rattle.scheduler.specs.Scheduler.{holding, Valid as Scheduler-as-Valid}
 use Rattle.door.specs.Door.{SetValid}
 use Rattle.door.specs.declared.Set.TheVariants as set
-use Rattle.log.specs.Log.{empty, Valid as Ring-as-Valid}
+use Rattle.record_ring.specs.Log.{empty, Valid as Ring-as-Valid}
 use Rattle.board.specs.State.{fresh_board, Valid as Board-as-Valid}
 use Rattle.bench_lines.specs.declared.desk.Bench.{Bench}
 use Rattle.bench_lines.specs.declared.desk.Shelf.{Shelf}

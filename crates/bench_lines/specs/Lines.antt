@@ -13,7 +13,7 @@ use Rattle.timer_lines.specs.Called as timer
 use Rattle.timer_lines.specs.Made as made
 use Rattle.wdt_lines.specs.Called as wdt
 use Rattle.door_lines.specs.declared.rules.Doors.{Doors}
-use Rattle.log.specs.declared.Ring.{Ring}
+use Rattle.record_ring.specs.declared.Ring.{Ring}
 use Rattle.timer_lines.specs.declared.socket.Socket.{Socket}
 use Rattle.wdt_lines.specs.declared.called.Watched.{Watched}
 use Rattle.bench_lines.specs.declared.desk.Bench.{Bench}

@@ -9,7 +9,7 @@ use config::Config;
 use counter::state::Timer;
 use door::Set;
 use door_lines::rules::Doors;
-use log::Ring;
+use record_ring::Ring;
 use oscillator::state::Watchdog;
 use scheduler::Scheduler;
 use timer_lines::socket::Socket;
@@ -22,7 +22,7 @@ const NOBODY: u64 = 4;
 
 // What most lines work on: one timer, one watchdog, one door, one log, how many items the list holds, and the number of the last line. Of the file, whose
 // records it takes, how many bytes of them the last line has for it, and whether it is begun anew.
-#[derive(Drop)]
+#[derive(Clone, Copy)]
 pub struct Bench {
     pub socket: Socket,
     pub watched: Watched,
@@ -36,7 +36,7 @@ pub struct Bench {
 }
 
 // What few lines work on, which is large and stands aside from the bench: one scheduler, one board.
-#[derive(Drop)]
+#[derive(Clone, Copy)]
 pub struct Shelf {
     pub scheduler: Scheduler,
     pub boarded: Boarded,

@@ -24,7 +24,7 @@ use wdt_lines::called::wdt_line;
 use words::{FINE, Taken, decimal, exactly, skip};
 
 // The bench after a line, and the place after what was put on the page.
-#[derive(Drop)]
+#[derive(Clone, Copy)]
 pub struct Said {
     pub bench: Bench,
     pub at: usize,

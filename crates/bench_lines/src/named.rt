@@ -20,7 +20,7 @@ pub const SCHED: usize = 9;
 pub const BOARD: usize = 10;
 
 // What a line asks of the shelf: by its name's place, 0 where it asks nothing; the place after its name, and where the line ends.
-#[derive(Drop)]
+#[derive(Clone, Copy)]
 pub struct Later {
     pub which: usize,
     pub at: usize,
@@ -28,7 +28,7 @@ pub struct Later {
 }
 
 // The bench after a line, the place after what was put on the page, and what is asked of the shelf.
-#[derive(Drop)]
+#[derive(Clone, Copy)]
 pub struct Heard {
     pub bench: Bench,
     pub at: usize,

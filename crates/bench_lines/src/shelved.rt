@@ -19,7 +19,7 @@ use sched_lines::sched_line;
 use words::FINE;
 
 // The bench and the shelf after a line, and the place after what was put on the page.
-#[derive(Drop)]
+#[derive(Clone, Copy)]
 pub struct Left {
     pub bench: Bench,
     pub shelf: Shelf,

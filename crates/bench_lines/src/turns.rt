@@ -16,7 +16,7 @@ use words::{TOO_LONG, find, skip};
 
 // The bench after a piece up to a place, the page's place, how many bytes are held of a line that has not ended, whether one did, and what that asks of the
 // shelf.
-#[derive(Drop)]
+#[derive(Clone, Copy)]
 pub struct Turned {
     pub bench: Bench,
     pub at: usize,

@@ -1,5 +1,7 @@
 // The ATmega328P board: whoever calls, with anything, gets the result or one numbered refusal.
 
+#![tactic(auto)]
+
 pub mod outcome;
 pub mod state;
 

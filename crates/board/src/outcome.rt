@@ -8,7 +8,7 @@ use answers::Answer;
 use m328p::Id;
 
 // The bytes written from the start of each timer's area.
-#[derive(Drop)]
+#[derive(Clone, Copy)]
 pub struct Written {
     pub zero: usize,
     pub one: usize,
@@ -16,7 +16,7 @@ pub struct Written {
 }
 
 // The answer, the board after the order, and the bytes written.
-#[derive(Drop)]
+#[derive(Clone, Copy)]
 pub struct Outcome {
     pub answer: Answer,
     pub board: Board,

@@ -11,7 +11,7 @@ use scheduler::Scheduler;
 
 // The timers by their ids; the scheduler holds the next events that they have.
 #[repr(C)]
-#[derive(Drop)]
+#[derive(Clone, Copy)]
 pub struct Board {
     pub zero: Timer,
     pub one: Timer,

@@ -18,7 +18,7 @@ pub const STATE: usize = 17;
 const NONE: usize = 18;
 
 // The order by its name's place, with its cycle, the size of each area, and why the line cannot be read.
-#[derive(Drop)]
+#[derive(Clone, Copy)]
 pub struct Asked {
     pub name: usize,
     pub order: Order,

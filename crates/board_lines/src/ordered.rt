@@ -15,14 +15,14 @@ use room::{changed, fill};
 use time::units::Cycle;
 
 // The board counts once there is a new one.
-#[derive(Drop)]
+#[derive(Clone, Copy)]
 pub struct Boarded {
     pub ready: bool,
     pub board: Board,
 }
 
 // The board after a line, the place after what was put on the page, how many bytes of each area are records, and whether the board is a fresh one.
-#[derive(Drop)]
+#[derive(Clone, Copy)]
 pub struct Left {
     pub boarded: Boarded,
     pub at: usize,

@@ -1,5 +1,7 @@
 // Input capture, and edges of the T pin.
 
+#![tactic(auto)]
+
 ghost use Rattle.std.specs.Prelude.{◌≡◌};
 ghost use Rattle.counter.specs.Capture.{capture, captures, captured, ticks_on};
 ghost use Rattle.counter.specs.Logs.{Logs};

@@ -1,5 +1,7 @@
 // One timer of the board under what reaches all three.
 
+#![tactic(auto)]
+
 ghost use Rattle.std.specs.Prelude.{◌≡◌};
 ghost use Rattle.passage.specs.Passage.{ticks};
 ghost use Rattle.counter.specs.Valid.{Valid as Running};

@@ -1,5 +1,7 @@
 // An advance over events of a rising count.
 
+#![tactic(auto)]
+
 ghost use Rattle.std.specs.Prelude.{◌≤◌, ◌<◌, ◌^◌, ◌≡◌, true, length};
 ghost use Rattle.passage.specs.Passage.{ticks};
 ghost use Rattle.timer.specs.Calls.{answered};
@@ -52,7 +54,7 @@ fn start(h: Held) -> Rise
 }
 
 // What such an advance changes of a held timer, and its reply.
-#[derive(Drop)]
+#[derive(Clone, Copy)]
 pub struct Risen {
     pub count: u32,
     pub odometer: u64,

@@ -1,5 +1,7 @@
 // The next event of a count that rises or falls, reckoned from a scene.
 
+#![tactic(auto)]
+
 ghost use Rattle.std.specs.Prelude.{◌≡◌, ◌<◌, ◌≤◌};
 ghost use Rattle.wave.specs.Distance.{space, reach};
 ghost use Rattle.coming.specs.Coming.{nearer_in, gap_in, over_in, bits_in, coming_of, Within};
@@ -11,7 +13,7 @@ use wave::distance::moved;
 use wave::kinds::dual_slope;
 
 // Ticks to the next event, and the TIFR bits that its tick will raise.
-#[derive(Drop)]
+#[derive(Clone, Copy)]
 pub struct Nearest {
     pub ticks: u32,
     pub flags: u8,

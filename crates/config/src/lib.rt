@@ -1,5 +1,7 @@
 // What is fixed of a timer, and the rules that it keeps.
 
+#![tactic(auto)]
+
 ghost use Rattle.std.specs.Prelude.{◌≡◌, ◌<◌, ◌≤◌};
 ghost use Rattle.few.specs.Few.{held};
 ghost use Rattle.config.specs.Config.{split, bare, one_bit, flagged, controls, owned, flags_of, pins_of, choice_rule, width_rule, layout_rule, compare_rule, address_rule, flag_rule, pin_rule, accepted, least, pair_at, control_at, place_of};
@@ -20,7 +22,7 @@ pub const TIMER2: u8 = 1;
 
 // A pin, where there is one.
 #[repr(C)]
-#[derive(Drop)]
+#[derive(Clone, Copy)]
 pub struct Wire {
     pub present: bool,
     pub pin: u8,
@@ -28,7 +30,7 @@ pub struct Wire {
 
 // A compare unit: OCRnx, OCFnx, FOCnx and OCnx.
 #[repr(C)]
-#[derive(Drop)]
+#[derive(Clone, Copy)]
 pub struct Compare {
     pub present: bool,
     pub address: u16,
@@ -39,7 +41,7 @@ pub struct Compare {
 
 // The capture unit: ICRn, ICFn and ICPn.
 #[repr(C)]
-#[derive(Drop)]
+#[derive(Clone, Copy)]
 pub struct Capture {
     pub present: bool,
     pub address: u16,
@@ -50,7 +52,7 @@ pub struct Capture {
 // foc is where the force bits stand, prr the timer's bit of the power reduction register, sleeprun the sleep modes that
 // it counts in. Layout and clock table are numbers, so that a program in Rust or C can hold a configuration.
 #[repr(C)]
-#[derive(Drop)]
+#[derive(Clone, Copy)]
 pub struct Config {
     pub id: u8,
     pub wide: bool,

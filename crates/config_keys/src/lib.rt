@@ -1,5 +1,7 @@
 // A configuration's keys as a line gives them.
 
+#![tactic(auto)]
+
 ghost use Rattle.std.specs.Prelude.{◌≡◌, ◌<◌, ◌≤◌, cond, eqb, length};
 ghost use Rattle.config_keys.specs.Keys.{absent as absentValue, fine_of, named_of, optional_of, written_of, value_of, no_keys, stopped_of, set_of, occurs, after_of, parts_of, compare_of, with_of, keys_of, whole_of, first_of, over_of, flag_value, unit_value, pin_value, saying_of};
 
@@ -16,7 +18,7 @@ pub const ABSENT: u64 = 0x1_0000;
 const MISSING: u64 = 0x2_0000;
 
 // A value for each of the 25 keys in the order of their list, then compare C's address, flag, pin and force mask.
-#[derive(Drop)]
+#[derive(Clone, Copy)]
 pub struct Keys {
     pub values: [u64; 29],
     pub why: u8,

@@ -16,7 +16,7 @@ use tick::setting::Moving;
 use time::units::{Cycle, Prescaler, Ticks};
 
 // What an advance changes: no timer is copied for it.
-#[derive(Drop)]
+#[derive(Clone, Copy)]
 pub struct Work {
     pub moving: Moving,
     pub sync: Cycle,
@@ -63,7 +63,7 @@ impl Work {
 }
 
 // The timer after an advance, the bytes written, and whether it stopped before the cycle.
-#[derive(Drop)]
+#[derive(Clone, Copy)]
 pub struct Advanced {
     pub timer: Timer,
     pub written: usize,
@@ -71,7 +71,7 @@ pub struct Advanced {
 }
 
 // A timer after a call, and the call's records.
-#[derive(Drop)]
+#[derive(Clone, Copy)]
 pub struct Logged {
     pub timer: Timer,
     pub log: Log,

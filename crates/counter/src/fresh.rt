@@ -13,7 +13,7 @@ use time::units::Cycle;
 use wave::count::Counter;
 
 // The refusal's number, 0 for none, and the timer.
-#[derive(Drop)]
+#[derive(Clone, Copy)]
 pub struct Started {
     pub number: u8,
     pub timer: Timer,

@@ -1,5 +1,7 @@
 // The timer's work, by value: each step takes the timer and gives the timer back.
 
+#![tactic(auto)]
+
 pub mod advance;
 pub mod flags;
 pub mod fresh;

@@ -12,7 +12,7 @@ use tick::distance::Distance;
 use time::units::{Cycle, Ticks};
 
 // The next event's cycle and the flags, as TIFR bits, that its tick will raise; or none where the counter does not run.
-#[derive(Drop)]
+#[derive(Clone, Copy)]
 pub enum Next {
     At(Cycle, u8),
     Never,

@@ -7,7 +7,7 @@ use time::halts::Halts;
 use wave::count::Counter;
 
 #[repr(C)]
-#[derive(Drop)]
+#[derive(Clone, Copy)]
 pub struct Registers {
     pub tccra: u8,
     pub tccrb: u8,
@@ -16,7 +16,7 @@ pub struct Registers {
 }
 
 #[repr(C)]
-#[derive(Drop)]
+#[derive(Clone, Copy)]
 pub struct Flags {
     pub tifr: u8,
     pub timsk: u8,
@@ -24,7 +24,7 @@ pub struct Flags {
 
 // ocr has the active compares of the channels A, B and C, buffer the buffered ones, oc the output levels.
 #[repr(C)]
-#[derive(Drop)]
+#[derive(Clone, Copy)]
 pub struct Timer {
     pub config: Config,
     pub counter: Counter,

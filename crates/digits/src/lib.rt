@@ -1,5 +1,7 @@
 // Bytes as a word of hexadecimal digits, two for each.
 
+#![tactic(auto)]
+
 ghost use Rattle.std.specs.Prelude.{length};
 ghost use Rattle.digits.specs.Spelling.{Spells, spelt, bytes_of};
 

@@ -1,5 +1,7 @@
 // The bench timer: any call, with anything, gets the result or one numbered refusal. Pins and comparator are answered here.
 
+#![tactic(auto)]
+
 ghost use Rattle.std.specs.Prelude.{◌≡◌};
 ghost use Rattle.passage.specs.Passage.{ticks};
 ghost use Rattle.counter.specs.Valid.{Valid};

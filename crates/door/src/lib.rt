@@ -1,5 +1,7 @@
 // Service rules for holding doors: contact edges by cycle, and when the close is due.
 
+#![tactic(auto)]
+
 ghost use Rattle.std.specs.Prelude.{◌≤◌, ◌<◌, ◌^◌, min, true, ◌≡◌};
 ghost use Rattle.door.specs.Door.{in_range, accepted, rearms, due_under, idle, held_from, begins, edge_taken, set_to, edged, DueAnswers, Valid, SetValid};
 
@@ -9,14 +11,14 @@ use time::units::Cycle;
 const LONGEST: u64 = 0x100_0000_0000;
 
 // A service rule, in cycles. Under rule one every edge rearms; under rule two once `quiet` have passed, and up to `cap` from the first edge.
-#[derive(Drop)]
+#[derive(Clone, Copy)]
 pub enum Rule {
     One { hold: u64 },
     Two { hold: u64, quiet: u64, cap: u64 },
 }
 
 // The rule, whether there is a hold, its first and its last rearming edge, when its close is due, and the latest accepted cycle.
-#[derive(Drop)]
+#[derive(Clone, Copy)]
 pub struct Door {
     pub rule: Rule,
     pub holding: bool,
@@ -27,21 +29,21 @@ pub struct Door {
 }
 
 // What `set` answers: the number 22 alone, or a door.
-#[derive(Drop)]
+#[derive(Clone, Copy)]
 pub enum Set {
     Refused(u8),
     Made(Door),
 }
 
 // What `edge` answers: 0, or 2 or 3 beside the door as it was.
-#[derive(Drop)]
+#[derive(Clone, Copy)]
 pub struct Edged {
     pub number: u8,
     pub door: Door,
 }
 
 // What `due` answers.
-#[derive(Drop)]
+#[derive(Clone, Copy)]
 pub enum Due {
     At(Cycle),
     Nothing,

@@ -7,7 +7,7 @@ use door::Rule;
 use words::{Cursor, Taken, decimal, exactly, none};
 
 // A line by its place among the names, with its words: a hold or an edge's cycle, and of rule two the quiet time and the cap.
-#[derive(Drop)]
+#[derive(Clone, Copy)]
 pub struct Asked {
     pub name: usize,
     pub first: u64,

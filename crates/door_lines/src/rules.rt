@@ -11,13 +11,13 @@ use time::units::Cycle;
 use words::{FINE, MISSING_WORD, UNKNOWN_COMMAND, find, place, skip};
 
 // The door of the last rule that was accepted; refused before there is one.
-#[derive(Drop)]
+#[derive(Clone, Copy)]
 pub struct Doors {
     pub set: Set,
 }
 
 // The door after a line, and the place after what was put on the page.
-#[derive(Drop)]
+#[derive(Clone, Copy)]
 pub struct Left {
     pub doors: Doors,
     pub at: usize,

@@ -10,7 +10,7 @@ use time::units::Cycle;
 
 // A rule in cycles. Rule one has a hold alone: its quiet and its cap are 0.
 #[repr(C)]
-#[derive(Drop)]
+#[derive(Clone, Copy)]
 pub struct Terms {
     pub two: bool,
     pub hold: u64,
@@ -20,7 +20,7 @@ pub struct Terms {
 
 // The rule, whether there is a hold, its first and its last rearming edge, when its close is due, and the latest accepted cycle.
 #[repr(C)]
-#[derive(Drop)]
+#[derive(Clone, Copy)]
 pub struct Kept {
     pub terms: Terms,
     pub holding: bool,
@@ -32,7 +32,7 @@ pub struct Kept {
 
 // number is the refusal's, 0 for none. Where a close is pending it is due at that cycle, else due is 0. The door is to be kept.
 #[repr(C)]
-#[derive(Drop)]
+#[derive(Clone, Copy)]
 pub struct Told {
     pub number: u8,
     pub pending: bool,

@@ -8,7 +8,7 @@ use dump::{Answer, dump};
 
 // number is the refusal's, 0 for none; short is whether the area is too short. written counts the area's bytes, none of a refused or a short call.
 #[repr(C)]
-#[derive(Drop)]
+#[derive(Clone, Copy)]
 pub struct Dumped {
     pub number: u8,
     pub short: bool,

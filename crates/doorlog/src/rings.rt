@@ -1,13 +1,13 @@
 // A log of up to 6,000 records in an area that the caller lends.
 
 ghost use Rattle.std.specs.Prelude.{◌≡◌};
-ghost use Rattle.log.specs.Log.{empty, added, released, place_of, Valid};
+ghost use Rattle.record_ring.specs.Log.{empty, added, released, place_of, Valid};
 
-use log::{Answer, Ring};
+use record_ring::{Answer, Ring};
 
 // A record's bytes.
 #[repr(C)]
-#[derive(Drop)]
+#[derive(Clone, Copy)]
 pub struct Entry {
     pub bytes: [u8; 10],
 }

@@ -1,5 +1,7 @@
 // A record log as a value change dump: of a whole log, or piece by piece after the check of `verdict`.
 
+#![tactic(auto)]
+
 mod text;
 mod wires;
 pub mod writer;
@@ -11,7 +13,7 @@ use crate::writer::Writer;
 use verdict::Check;
 
 // The bytes written from the area's start, a refusal's number, or that the area is too short; the last two leave the area as it was.
-#[derive(Drop)]
+#[derive(Clone, Copy)]
 pub enum Answer {
     Written(usize),
     Refused(u8),
@@ -19,7 +21,7 @@ pub enum Answer {
 }
 
 // The writer after a piece, and the answer.
-#[derive(Drop)]
+#[derive(Clone, Copy)]
 pub struct Step {
     pub writer: Writer,
     pub answer: Answer,

@@ -11,21 +11,21 @@ use crate::text::{time_line, value_line};
 use pieces::{Part, Whole};
 
 // What is kept of the pieces so far: the record that is not whole, and the cycle of the last time line.
-#[derive(Drop)]
+#[derive(Clone, Copy)]
 pub struct Writer {
     part: Part,
     last: u64,
 }
 
 // Where writing stands: the place, and the cycle of the last time line.
-#[derive(Drop)]
+#[derive(Clone, Copy)]
 struct Cursor {
     at: usize,
     last: u64,
 }
 
 // The writer after a piece, and the place after its lines.
-#[derive(Drop)]
+#[derive(Clone, Copy)]
 pub struct Lines {
     pub writer: Writer,
     pub at: usize,

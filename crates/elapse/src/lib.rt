@@ -1,5 +1,7 @@
 // Time that elapses: the advance, the next event, and the reset.
 
+#![tactic(auto)]
+
 ghost use Rattle.passage.specs.Passage.{ticks};
 ghost use Rattle.counter.specs.Valid.{Valid};
 ghost use Rattle.answers.specs.Answers.{Tells};

@@ -1,19 +1,21 @@
 // The events of a scheduler in the order of the Rust's vector: 64 places, of which the first `count` hold one and the others
 // are blank.
 
+#![tactic(auto)]
+
 ghost use Rattle.std.specs.Prelude.{◌<◌, ◌≡◌, [], ◌∷◌, ◌++◌, get_or, set};
 ghost use Rattle.events.specs.Events.{blank, same, place_of, earliest, foremost, swap_removed, list_in, Packed};
 
 // Identifies an event: the owning peripheral index and a peripheral-defined tag.
 #[repr(C)]
-#[derive(Drop)]
+#[derive(Clone, Copy)]
 pub struct EventKey {
     pub owner: u8,
     pub tag: u8,
 }
 
 #[repr(C)]
-#[derive(Drop)]
+#[derive(Clone, Copy)]
 pub struct Event {
     pub key: EventKey,
     pub cycle: u64,
@@ -23,14 +25,14 @@ pub struct Event {
 pub const PLACES: usize = 64;
 
 #[repr(C)]
-#[derive(Drop)]
+#[derive(Clone, Copy)]
 pub struct Events {
     places: [Event; PLACES],
     pub count: usize,
 }
 
 // The place and the cycle of the earliest event (0 and 2^64 - 1 when none).
-#[derive(Drop)]
+#[derive(Clone, Copy)]
 pub struct Earliest {
     pub place: usize,
     pub cycle: u64,

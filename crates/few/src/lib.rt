@@ -1,5 +1,7 @@
 // A few numbers: the addresses, flag bits or pins of a configuration.
 
+#![tactic(auto)]
+
 ghost use Rattle.std.specs.Prelude.{◌≡◌, [], ◌+◌, ◌<◌, ◌≤◌, drop};
 ghost use Rattle.few.specs.Few.{held, also, five, register, has, distinct, within};
 
@@ -10,7 +12,7 @@ fn wide(x: u8) -> u32
     x as u32
 }
 
-#[derive(Drop)]
+#[derive(Clone, Copy)]
 pub struct Few {
     items: [u32; 13],
     len: usize,

@@ -1,5 +1,7 @@
 // Texts and decimal numbers as bytes, put at a place of an area.
 
+#![tactic(auto)]
+
 ghost use Rattle.std.specs.Prelude.{◌+◌, ◌≤◌, length};
 ghost use Rattle.figures.specs.Figures.{decimal, Wrote};
 

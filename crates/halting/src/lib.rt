@@ -1,5 +1,7 @@
 // What halts the timer's counter, or lets it go on: sleep, power reduction, TSM; and the prescaler's reset.
 
+#![tactic(auto)]
+
 ghost use Rattle.passage.specs.Passage.{ticks};
 ghost use Rattle.counter.specs.Valid.{Valid};
 ghost use Rattle.answers.specs.Answers.{Tells};

@@ -8,7 +8,7 @@ use crate::state::{Held, held_of};
 use answers::Outcome;
 
 // The held timer after a call, and the reply.
-#[derive(Drop)]
+#[derive(Clone, Copy)]
 pub struct Called {
     pub held: Held,
     pub reply: Reply,

@@ -26,7 +26,7 @@ pub fn refusing(tested: bool, latest: u64, next: u64, cycle: u64) -> u8
 }
 
 // The latest cycle after a call that changes nothing else, and its reply.
-#[derive(Drop)]
+#[derive(Clone, Copy)]
 pub struct Answered {
     pub latest: u64,
     pub reply: Reply,
@@ -77,7 +77,7 @@ pub fn clearing(tifr: u8, ones: u8) -> u8
 }
 
 // The counter and the clock after time that passed below the next event.
-#[derive(Drop)]
+#[derive(Clone, Copy)]
 pub struct Stilled {
     pub counter: Counter,
     pub clock: Clock,
@@ -109,7 +109,7 @@ pub fn stilling(counter: Counter, clock: Clock, shift: u8, down: bool, cycle: u6
 }
 
 // The counter, the clock and TEMP after the count's low byte is read, and the byte.
-#[derive(Drop)]
+#[derive(Clone, Copy)]
 pub struct Counted {
     pub counter: Counter,
     pub clock: Clock,

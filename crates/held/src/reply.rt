@@ -11,7 +11,7 @@ use counter::next::Next;
 // come, 4 for the sync cycle of an advance that stopped, 5 for a refusal, 6 for an advance that came to its cycle; value has
 // it. written counts the area's bytes. flags and next are the next event's of the timer as an accepted call leaves it, 0 beside a refusal.
 #[repr(C)]
-#[derive(Drop)]
+#[derive(Clone, Copy)]
 pub struct Reply {
     pub number: u8,
     pub what: u8,

@@ -19,7 +19,7 @@ pub const NEVER: u64 = 0xffff_ffff_ffff_ffff;
 // next is the next event's cycle, NEVER for none; flags are the TIFR bits that its tick will raise; shift is the divisor's
 // power of two, 63 where the counter does not run; down tells whether the count falls.
 #[repr(C)]
-#[derive(Drop)]
+#[derive(Clone, Copy)]
 pub struct Held {
     pub timer: Timer,
     pub scene: Scene,
@@ -50,7 +50,7 @@ pub fn shift_of(divisor: u32, running: bool) -> u8
 }
 
 // The next event and the shift of a timer.
-#[derive(Drop)]
+#[derive(Clone, Copy)]
 pub struct Ahead {
     pub next: u64,
     pub flags: u8,

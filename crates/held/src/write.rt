@@ -36,7 +36,7 @@ pub fn way_of(config: Config, kind: u8, latest: u64, next: u64, address: u16, cy
 }
 
 // What the low byte of a buffered compare changes of a held timer, and the reply.
-#[derive(Drop)]
+#[derive(Clone, Copy)]
 pub struct Buffered {
     pub counter: Counter,
     pub clock: Clock,

@@ -1,5 +1,7 @@
 // An item of the list: ten bytes, most significant first.
 
+#![tactic(auto)]
+
 ghost use Rattle.std.specs.Prelude.{◌≡◌, ◌+◌, ◌≤◌, length, take, drop};
 ghost use Rattle.items.specs.Items.{item_in};
 
@@ -7,7 +9,7 @@ use records::numbers::{eight, two};
 use time::units::Cycle;
 
 // A register's address, the byte to write there, and the cycle.
-#[derive(Drop)]
+#[derive(Clone, Copy)]
 pub struct Item {
     pub address: u16,
     pub value: u8,

@@ -1,5 +1,7 @@
 // Advance and reset on a lent timer: the core by value, and its timer stored.
 
+#![tactic(auto)]
+
 pub mod local;
 
 ghost use Rattle.counter.specs.Valid.{Valid};
@@ -13,7 +15,7 @@ use counter::state::Timer;
 use time::units::Cycle;
 
 // The answer, and the bytes written from the area's start.
-#[derive(Drop)]
+#[derive(Clone, Copy)]
 pub struct Told {
     pub answer: Answer,
     pub written: usize,

@@ -1,5 +1,7 @@
 // A script's lines, cut at line feeds. The script comes in pieces: what a piece has of a line is held until the rest comes.
 
+#![tactic(auto)]
+
 ghost use Rattle.std.specs.Prelude.{◌≤◌, ◌<◌, ◌≡◌, ◌∷◌, [], length};
 ghost use Rattle.linewise.specs.Lines.{Holds, Cuts};
 
@@ -12,7 +14,7 @@ pub const LONGEST: usize = 500;
 pub type Line = [u8; LONGEST];
 
 // How far a piece was read, how many bytes are held of the line, and whether that ended.
-#[derive(Drop)]
+#[derive(Clone, Copy)]
 pub struct Reached {
     pub at: usize,
     pub held: usize,

@@ -19,7 +19,7 @@ pub type Items = [u8; LIST];
 const LAST: u64 = 0x3fff_ffff_ffff_ffff;
 
 // How many items the list holds after a line, and the place after what was put on the page.
-#[derive(Drop)]
+#[derive(Clone, Copy)]
 pub struct Made {
     pub items: usize,
     pub at: usize,

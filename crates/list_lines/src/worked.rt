@@ -19,7 +19,7 @@ use writes::{Why, Written, writes};
 const LONGEST: usize = 250;
 
 // After a line: the timer, how many items the list of lines holds, the place after what was put on the page, and how many bytes of the area are records.
-#[derive(Drop)]
+#[derive(Clone, Copy)]
 pub struct Left {
     pub socket: Socket,
     pub items: usize,

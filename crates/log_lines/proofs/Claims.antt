@@ -14,8 +14,8 @@ use Rattle.page.proofs.Lengths.{Upto, numbered, either, unreadable-short}
 use Rattle.records.specs.Records.{record_at}
 use Rattle.display.proofs.Lengths.{bytes-short}
 use Rattle.digits.specs.Spelling.{Spelt, bytes_of}
-use Rattle.log.specs.Log.{added, released}
-use Rattle.log.specs.declared.Ring.{Ring}
+use Rattle.record_ring.specs.Log.{added, released}
+use Rattle.record_ring.specs.declared.Ring.{Ring}
 use Rattle.log_lines.specs.Logged.{Lined, held_of, placed_by, add_of, release_of, read_of, named_of, log_line}
 use Rattle.log_lines.specs.Claims.{Short}
 

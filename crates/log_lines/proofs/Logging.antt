@@ -16,9 +16,9 @@ use Rattle.page.proofs.Sheets.{then}
 use Rattle.records.specs.Records.{record_at}
 use Rattle.display.specs.Answers.{bytes_of as shownOf}
 use Rattle.digits.specs.Spelling.{Spelt, bytes_of}
-use Rattle.log.specs.Log.{Valid, released}
-use Rattle.log.specs.declared.Answer.{Answer}
-use Rattle.log.specs.declared.Ring.{Ring}
+use Rattle.record_ring.specs.Log.{Valid, released}
+use Rattle.record_ring.specs.declared.Answer.{Answer}
+use Rattle.record_ring.specs.declared.Ring.{Ring}
 use Rattle.log_lines.specs.declared.Left.{Left}
 use Rattle.log_lines.specs.Logged.{saying, held_of, placed_by, added_of, add_of, release_of, read_of, named_of, log_line, Leaves}
 

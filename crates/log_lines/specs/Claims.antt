@@ -1,6 +1,6 @@
 -- What is proved of a log's lines beside the functions.
 use Rattle.std.specs.Prelude.{ℕ, ◌≤◌, List, length}
-use Rattle.log.specs.declared.Ring.{Ring}
+use Rattle.record_ring.specs.declared.Ring.{Ring}
 use Rattle.log_lines.specs.Logged.{log_line}
 
 -- no answer is longer, for any log, line and area

@@ -9,8 +9,8 @@ use Rattle.page.specs.Page.{Puts, unreadable_of}
 use Rattle.records.specs.Records.{record_at}
 use Rattle.display.specs.Answers.{bytes_of as shownOf}
 use Rattle.digits.specs.Spelling.{Spelt, bytes_of}
-use Rattle.log.specs.Log.{Valid, added, released}
-use Rattle.log.specs.declared.Ring.{Ring}
+use Rattle.record_ring.specs.Log.{Valid, added, released}
+use Rattle.record_ring.specs.declared.Ring.{Ring}
 use Rattle.log_lines.specs.declared.Left.{Left}
 
 -- what a line leaves: the log, its area, and the answer's bytes

@@ -1,13 +1,15 @@
 // Lines on the log that gives its space back. Each puts its answer on a page, without the line feed.
 
+#![tactic(auto)]
+
 ghost use Rattle.std.specs.Prelude.{◌-◌, ◌^◌};
 ghost use Rattle.words.specs.Numbers.{next_of};
 ghost use Rattle.page.specs.Page.{Puts};
 ghost use Rattle.digits.specs.Spelling.{bytes_of};
-ghost use Rattle.log.specs.Log.{Valid};
+ghost use Rattle.record_ring.specs.Log.{Valid};
 ghost use Rattle.log_lines.specs.Logged.{held_of, added_of, add_of, release_of, read_of, log_line, Leaves};
 
-use log::{Answer, BYTES, Ring};
+use record_ring::{Answer, BYTES, Ring};
 use page::{Page, number, unreadable};
 use words::{
     Cursor, FINE, MALFORMED, MISSING_WORD, UNKNOWN_COMMAND, decimal, exactly, find, place, skip,
@@ -17,7 +19,7 @@ use words::{
 pub type Area = [u8; BYTES];
 
 // The log after a line, and the place after what was put on the page.
-#[derive(Drop)]
+#[derive(Clone, Copy)]
 pub struct Left {
     pub ring: Ring,
     pub at: usize,

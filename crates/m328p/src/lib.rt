@@ -1,5 +1,7 @@
 // The three timers of the ATmega328P on the 28-pin DIP, and what stands at its data addresses.
 
+#![tactic(auto)]
+
 ghost use Rattle.std.specs.Prelude.{◌≡◌};
 ghost use Rattle.config.specs.Config.{no_wire, no_compare, no_capture};
 ghost use Rattle.m328p.specs.Timers.{wire, compare, timer0, timer1, timer2};
@@ -8,7 +10,7 @@ ghost use Rattle.m328p.specs.Places.{is_of, register_at, place_at};
 use config::{Capture, Compare, Config, SPLIT, SYNC, TIMER2, Wire};
 
 // A timer's id, 0 to 2.
-#[derive(Drop)]
+#[derive(Clone, Copy)]
 pub enum Id {
     Zero,
     One,
@@ -16,7 +18,7 @@ pub enum Id {
 }
 
 // What stands at a data address: GTCCR, or of a timer TIFRn, TIMSKn or a register.
-#[derive(Drop)]
+#[derive(Clone, Copy)]
 pub enum Place {
     Gtccr,
     Tifr(Id),

@@ -1,5 +1,7 @@
 // An order to the board and its answer in numbers, by value, for Rust and C.
 
+#![tactic(auto)]
+
 ghost use Rattle.std.specs.Prelude.{◌≡◌};
 ghost use Rattle.counter.specs.Valid.{Valid as Running};
 ghost use Rattle.answers.specs.Answers.{values_of};
@@ -21,7 +23,7 @@ use time::units::Cycle;
 
 // kind is the order's place in `aims::Order`, from 0 on, and id a timer's, 0 to 2; of the other arguments it takes those that it has.
 #[repr(C)]
-#[derive(Drop)]
+#[derive(Clone, Copy)]
 pub struct Ordered {
     pub kind: u8,
     pub id: u8,
@@ -33,7 +35,7 @@ pub struct Ordered {
 
 // Of a timer of the board, as a timer's reply has them: the bytes that the order wrote in its area, and its next event.
 #[repr(C)]
-#[derive(Drop)]
+#[derive(Clone, Copy)]
 pub struct Standing {
     pub flags: u8,
     pub written: u64,
@@ -42,7 +44,7 @@ pub struct Standing {
 
 // number, what and value are those of a timer's reply, and so are flags, where the answer has some.
 #[repr(C)]
-#[derive(Drop)]
+#[derive(Clone, Copy)]
 pub struct Replied {
     pub number: u8,
     pub what: u8,
@@ -54,14 +56,14 @@ pub struct Replied {
 }
 
 // The board after an order, and the reply.
-#[derive(Drop)]
+#[derive(Clone, Copy)]
 pub struct Moved {
     pub board: Board,
     pub reply: Replied,
 }
 
 // The order that the numbers name, if they name one.
-#[derive(Drop)]
+#[derive(Clone, Copy)]
 pub enum Meant {
     Known(Order),
     Unknown,

@@ -1,5 +1,7 @@
 // The watchdog's own oscillator: its ticks, its next time-out, and the time that passes by them.
 
+#![tactic(auto)]
+
 pub mod next;
 pub mod passing;
 pub mod state;

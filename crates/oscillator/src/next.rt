@@ -9,7 +9,7 @@ use crate::state::Watchdog;
 use time::units::{Cycle, Ticks};
 
 // The next event's cycle, or none while the watchdog is stopped.
-#[derive(Drop)]
+#[derive(Clone, Copy)]
 pub enum Next {
     At(Cycle),
     Never,

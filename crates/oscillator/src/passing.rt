@@ -11,7 +11,7 @@ use time::units::{Cycle, Ticks};
 use wdtcsr::state::Moving;
 
 // Where a run ends: at its last tick, or before the first time-out whose record does not fit.
-#[derive(Drop)]
+#[derive(Clone, Copy)]
 pub struct Finished {
     pub moving: Moving,
     pub at: Ticks,
@@ -51,7 +51,7 @@ fn run(moving: Moving, from: Ticks, end: Ticks, area: &mut [u8]) -> Finished
 }
 
 // The watchdog after an advance, the bytes written, and whether it stopped before the cycle.
-#[derive(Drop)]
+#[derive(Clone, Copy)]
 pub struct Advanced {
     pub watchdog: Watchdog,
     pub written: usize,

@@ -8,7 +8,7 @@ use wdtcsr::state::{Control, Moving, Window};
 
 // What the oscillator moves, the cycle up to which it is worked, and the latest accepted cycle.
 #[repr(C)]
-#[derive(Drop)]
+#[derive(Clone, Copy)]
 pub struct Watchdog {
     pub moving: Moving,
     pub sync: Cycle,

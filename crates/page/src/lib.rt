@@ -1,5 +1,7 @@
 // Answers as bytes, on a page. A full page takes no more: the program writes it out between lines, while there is room for the longest answer.
 
+#![tactic(auto)]
+
 ghost use Rattle.std.specs.Prelude.{◌<◌, ◌≡◌, ◌∷◌, [], ◌++◌};
 ghost use Rattle.io.specs.Digits.{hex_digit_ascii as Digits·glyph};
 ghost use Rattle.figures.specs.Figures.{number};

@@ -1,5 +1,7 @@
 // A run: event by event up to a tick, or to the first whose records do not fit.
 
+#![tactic(auto)]
+
 ghost use Rattle.std.specs.Prelude.{◌+◌, ◌≡◌, length};
 ghost use Rattle.wave.specs.Count.{Turns};
 ghost use Rattle.passage.specs.Passage.{odometer_to, Ready, Ran, Made, Finishes};
@@ -10,7 +12,7 @@ use time::units::{Prescaler, Ticks};
 use wave::count::counted;
 
 // Where a run stands: what moved, the quiet ticks before its next event, the number of its last tick, and the place of the next record.
-#[derive(Drop)]
+#[derive(Clone, Copy)]
 pub struct Progress {
     pub moving: Moving,
     pub gap: u32,
@@ -19,14 +21,14 @@ pub struct Progress {
 }
 
 // An event's tick made aside: how the run stands after it, and its records.
-#[derive(Drop)]
+#[derive(Clone, Copy)]
 pub struct Aside {
     pub after: Progress,
     pub log: Log,
 }
 
 // Where a run ends: at its last tick, or before the first whose records do not fit.
-#[derive(Drop)]
+#[derive(Clone, Copy)]
 pub struct Finished {
     pub moving: Moving,
     pub at: Ticks,

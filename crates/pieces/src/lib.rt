@@ -1,12 +1,14 @@
 // A record log that comes in pieces, cut anywhere: its whole records, one after the other.
 
+#![tactic(auto)]
+
 ghost use Rattle.std.specs.Prelude.{◌≡◌, ◌/◌, ◌%◌, ◌<◌, ◌^◌, eqb, length};
 ghost use Rattle.pieces.specs.Pieces.{start, between, begun, kind_of, cycle_of, Cuts, Steps};
 
 use records::numbers::{eight, two};
 
 // The last ten bytes, as eight and two, and how many of them are of a record that is not whole.
-#[derive(Drop)]
+#[derive(Clone, Copy)]
 pub struct Part {
     have: u8,
     head: u64,
@@ -14,14 +16,14 @@ pub struct Part {
 }
 
 // A record's ten bytes: kind and cycle in the first eight, then the body.
-#[derive(Drop)]
+#[derive(Clone, Copy)]
 pub struct Whole {
     pub head: u64,
     pub body: u16,
 }
 
 // The part after some bytes, the place after them, and the record that they make whole, if they do.
-#[derive(Drop)]
+#[derive(Clone, Copy)]
 pub struct Next {
     pub part: Part,
     pub at: usize,

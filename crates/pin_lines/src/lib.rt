@@ -1,5 +1,7 @@
 // Lines that resolve a pin.
 
+#![tactic(auto)]
+
 ghost use Rattle.std.specs.Prelude.{◌≡◌, ◌<◌};
 ghost use Rattle.page.specs.Page.{Puts};
 ghost use Rattle.pin_lines.specs.PinLines.{no_keys, stopped_of, supplied_of, driven_of, connected_of, bit_of, with_of, keys_of, drive_of, pin_of, resolved_line, answer_of, pin_line};
@@ -13,7 +15,7 @@ use words::{EXTRA_WORD, FINE, UNKNOWN_KEY, UNKNOWN_NAME, find, low8, numeral, pl
 const MISSING: u64 = 0x100;
 
 // The keys in the order of their list: vcc and volts beside what tells that they were given, ext by its place among the drives.
-#[derive(Drop)]
+#[derive(Clone, Copy)]
 struct Keys {
     values: [u64; 13],
     vcc: f64,

@@ -1,12 +1,15 @@
 // One GPIO pin: what the MCU drives, what the outside drives, and the level and the volts that come of it.
 // A pin goes in by value and comes back.
+
+#![tactic(auto)]
+
 ghost use Rattle.std.specs.Prelude.{◌≡◌};
 ghost use Rattle.pins.specs.Pins.{finite, supplied, usable, rail, clamped, analog_level};
 ghost use Rattle.pins.specs.Pins.{overridden, driven_bit, direction, output, bits, at, at_rail, pulled, input, settled, opposed};
 ghost use Rattle.pins.specs.Pins.{refusal, of_bit, bit_answer, contention_answer, resolved_answer, driven, effective_dir, contention, resolved};
 
 // What the outside world connects to a pin.
-#[derive(Drop)]
+#[derive(Clone, Copy)]
 pub enum Drive {
     // Nothing (high impedance).
     Float,
@@ -16,7 +19,7 @@ pub enum Drive {
     Analog(f64),
 }
 
-#[derive(Drop)]
+#[derive(Clone, Copy)]
 pub struct Pin {
     // 1 = output.
     pub dir: u8,
@@ -38,19 +41,19 @@ pub struct Pin {
 }
 
 // Refused, here and below, holds the refusal's number: 9 for the volts, 10 for the bits.
-#[derive(Drop)]
+#[derive(Clone, Copy)]
 pub enum Bit {
     Is(u8),
     Refused(u8),
 }
 
-#[derive(Drop)]
+#[derive(Clone, Copy)]
 pub enum Contention {
     Is(bool),
     Refused(u8),
 }
 
-#[derive(Drop)]
+#[derive(Clone, Copy)]
 pub enum Resolved {
     To { pin: Pin, changed: bool },
     Refused(u8),

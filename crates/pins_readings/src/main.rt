@@ -1,4 +1,7 @@
 // Runs the pin calls on the bench's readings, at the borders and where they are refused: a line for each case, which `stdout` holds.
+
+#![tactic(auto)]
+
 use libc::STDOUT_FILENO;
 use pins::{Bit, Contention, Drive, Pin, Resolved};
 use words::volts::pattern;

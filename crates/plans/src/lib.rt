@@ -1,5 +1,7 @@
 // The board's scheduler: under each timer's id the next event that the timer has, and nothing else.
 
+#![tactic(auto)]
+
 ghost use Rattle.std.specs.Prelude.{◌≡◌};
 ghost use Rattle.scheduler.specs.Scheduler.{Valid};
 ghost use Rattle.plans.specs.Plans.{key_of, planned_of};

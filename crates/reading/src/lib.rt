@@ -1,12 +1,14 @@
 // Registers read: what an address holds, and what reading it yields.
 
+#![tactic(auto)]
+
 ghost use Rattle.std.specs.Prelude.{◌≡◌};
 ghost use Rattle.counter.specs.Registers.{word_of, packed, control_of, peeked, read_value, read_timer};
 
 use counter::state::Timer;
 
 // A byte read, and the timer with what reading it does to TEMP.
-#[derive(Drop)]
+#[derive(Clone, Copy)]
 pub struct Byte {
     pub value: u8,
     pub timer: Timer,

@@ -1,5 +1,7 @@
 // The record area: what a call reports, as records of ten bytes one after the other.
 
+#![tactic(auto)]
+
 pub mod numbers;
 
 ghost use Rattle.std.specs.Prelude.{◌≡◌, cond, ◌+◌, ◌≤◌, length, replicate, take, ◌++◌, reverse};
@@ -7,7 +9,7 @@ ghost use Rattle.std.proofs.lemmas.List.Edits.{sets};
 ghost use Rattle.records.specs.Records.{bytes_of, record_of, records_of, only, fits};
 
 // A record without its cycle: its kind (2 bits) and its body (16).
-#[derive(Drop)]
+#[derive(Clone, Copy)]
 pub struct Entry {
     pub kind: u8,
     pub body: u16,
@@ -70,7 +72,7 @@ pub fn also(area: &mut [u8], at: usize, cycle: u64, wanted: bool, entry: Entry) 
 }
 
 // The records of one call, at most eleven, before it is known whether they fit the area.
-#[derive(Drop)]
+#[derive(Clone, Copy)]
 pub struct Log {
     pub bytes: [u8; 110],
     pub len: usize,

@@ -27,7 +27,7 @@ pub fn catches(t: Timer, asked: Asked) -> bool
 }
 
 // What a capture changes of a held timer, and the reply.
-#[derive(Drop)]
+#[derive(Clone, Copy)]
 pub struct Caught {
     pub counter: Counter,
     pub clock: Clock,
@@ -73,7 +73,7 @@ pub fn catching(h: Held, asked: Asked, area: &mut [u8]) -> Caught
 }
 
 // What a tick of the T pin changes of a held timer, and the reply.
-#[derive(Drop)]
+#[derive(Clone, Copy)]
 pub struct Ticked {
     pub timer: Timer,
     pub top: u32,

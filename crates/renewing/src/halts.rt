@@ -18,7 +18,7 @@ use time::units::Cycle;
 use wave::count::Counter;
 
 // What such a call changes of a held timer, and the reply.
-#[derive(Drop)]
+#[derive(Clone, Copy)]
 pub struct Turned {
     pub counter: Counter,
     pub clock: Clock,

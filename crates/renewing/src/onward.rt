@@ -18,7 +18,7 @@ use time::clock::Clock;
 use time::units::Cycle;
 
 // What such an advance changes of a held timer, and the reply.
-#[derive(Drop)]
+#[derive(Clone, Copy)]
 pub struct Went {
     pub moving: Moving,
     pub clock: Clock,

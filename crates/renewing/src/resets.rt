@@ -46,7 +46,7 @@ fn cleared(s: Scene, config: Config) -> Scene
 }
 
 // The timer and the scene after a reset, whether its records fit the area, and how many bytes they are.
-#[derive(Drop)]
+#[derive(Clone, Copy)]
 pub struct Reset {
     pub fits: bool,
     pub timer: Timer,

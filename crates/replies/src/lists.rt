@@ -15,7 +15,7 @@ use writes::Why;
 
 // The timer after a list, the items done, and in numbers why it ended, with the bytes written.
 #[repr(C)]
-#[derive(Drop)]
+#[derive(Clone, Copy)]
 pub struct Ended {
     pub timer: Held,
     pub done: u64,

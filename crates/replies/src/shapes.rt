@@ -5,7 +5,7 @@ ghost use Rattle.replies.specs.Shapes.{shape};
 
 // The bytes that a value takes, and the multiple of which its address must be.
 #[repr(C)]
-#[derive(Drop)]
+#[derive(Clone, Copy)]
 pub struct Shape {
     pub size: u64,
     pub align: u64,

@@ -11,7 +11,7 @@ use time::units::Cycle;
 
 // number is the refusal's, 0 for none; ticks is the shift, 0 beside a refusal.
 #[repr(C)]
-#[derive(Drop)]
+#[derive(Clone, Copy)]
 pub struct Shifted {
     pub number: u8,
     pub ticks: i32,

@@ -9,7 +9,7 @@ use held::state::{Held, held_of};
 
 // The refusal's number, 0 for none, and the timer.
 #[repr(C)]
-#[derive(Drop)]
+#[derive(Clone, Copy)]
 pub struct Begun {
     pub number: u8,
     pub timer: Held,

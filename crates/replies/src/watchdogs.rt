@@ -15,7 +15,7 @@ use watchdog::outcome::{Answer, Outcome};
 // number is the refusal's, 0 for none. what is 0 for no value, 1 for WDTCSR, 2 for the next event's cycle, 3 for none to
 // come, 4 for the sync cycle of an advance that stopped; value has it. written counts the area's bytes.
 #[repr(C)]
-#[derive(Drop)]
+#[derive(Clone, Copy)]
 pub struct Report {
     pub number: u8,
     pub what: u8,
@@ -25,7 +25,7 @@ pub struct Report {
 
 // The watchdog after a call, and its report.
 #[repr(C)]
-#[derive(Drop)]
+#[derive(Clone, Copy)]
 pub struct Watched {
     pub watchdog: Watchdog,
     pub report: Report,

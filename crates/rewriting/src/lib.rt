@@ -1,5 +1,7 @@
 // A register written below the next event: time has passed by what is kept, and what is kept is then worked out anew.
 
+#![tactic(auto)]
+
 ghost use Rattle.std.specs.Prelude.{true, false, ◌≡◌, ◌≤◌, ◌<◌};
 ghost use Rattle.held.specs.Held.{Kept};
 ghost use Rattle.rewriting.specs.Writing.{Takes, Rewrites};

@@ -1,5 +1,7 @@
 // The area that a line's call has, and whether the call kept to it.
 
+#![tactic(auto)]
+
 ghost use Rattle.std.specs.Prelude.{◌≡◌, length};
 ghost use Rattle.room.specs.Room.{filled, changed_at};
 

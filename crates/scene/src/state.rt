@@ -10,7 +10,7 @@ use wave::kinds::{ICR, OCRA, ends_at_top, fast_pwm};
 // What no tick changes. fast tells F, ends whether the count goes to 0 at TOP, follows whether TOP is OCRnA, pinned whether a channel may drive
 // its pin; pa to pc tell which compares there are. fa to fc, tov and icf are TIFR bits; capt is ICF where a count at TOP captures, else 0.
 #[repr(C)]
-#[derive(Drop)]
+#[derive(Clone, Copy)]
 pub struct Scene {
     pub max: u32,
     pub buffer: [u32; 3],

@@ -1,5 +1,7 @@
 // Lines that call the scheduler.
 
+#![tactic(auto)]
+
 ghost use Rattle.std.specs.Prelude.{◌≡◌};
 ghost use Rattle.page.specs.Page.{Puts};
 ghost use Rattle.scheduler.specs.Scheduler.{Valid, held, scheduled as scheduled_of, cycle_of, popped as popped_of};
@@ -13,7 +15,7 @@ use words::{
 };
 
 // A call by its place among the names, with its words.
-#[derive(Drop)]
+#[derive(Clone, Copy)]
 struct Asked {
     name: usize,
     key: EventKey,
@@ -118,7 +120,7 @@ fn popped(page: &mut Page, from: usize, event: Event, next: u64) -> usize
 }
 
 // What a call leaves: the scheduler, and the place after its answer.
-#[derive(Drop)]
+#[derive(Clone, Copy)]
 pub struct Left {
     pub scheduler: Scheduler,
     pub at: usize,

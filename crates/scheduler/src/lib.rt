@@ -1,6 +1,8 @@
 // Cycle-stamped event scheduler: events at the exact CPU cycle where something observable happens, and the earliest of
 // their cycles. A scheduler goes in by value and comes back.
 
+#![tactic(auto)]
+
 ghost use Rattle.std.specs.Prelude.{min, ◌≡◌, []};
 ghost use Rattle.events.specs.Events.{list_in, earliest, Packed};
 ghost use Rattle.scheduler.specs.Scheduler.{holding, held, Valid, number_of, cycle_in, event_in, scheduled, removed, cycle_of, popped};
@@ -9,7 +11,7 @@ pub use events::{Event, EventKey};
 use events::{Events, PLACES};
 
 #[repr(C)]
-#[derive(Drop)]
+#[derive(Clone, Copy)]
 pub struct Scheduler {
     events: Events,
     // Cycle of the earliest event (2^64 - 1 when none).
@@ -17,33 +19,33 @@ pub struct Scheduler {
 }
 
 // What `at` answers: a new key is refused when 64 are held.
-#[derive(Drop)]
+#[derive(Clone, Copy)]
 pub enum Answer {
     Accepted,
     Refused,
 }
 
-#[derive(Drop)]
+#[derive(Clone, Copy)]
 pub struct Setting {
     pub answer: Answer,
     pub scheduler: Scheduler,
 }
 
 // What `is_scheduled` answers.
-#[derive(Drop)]
+#[derive(Clone, Copy)]
 pub enum Scheduled {
     At(u64),
     Never,
 }
 
 // What `pop_due` answers.
-#[derive(Drop)]
+#[derive(Clone, Copy)]
 pub enum Due {
     Popped(Event),
     Nothing,
 }
 
-#[derive(Drop)]
+#[derive(Clone, Copy)]
 pub struct Popping {
     pub due: Due,
     pub scheduler: Scheduler,

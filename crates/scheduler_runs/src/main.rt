@@ -1,5 +1,8 @@
 // A fixed history of 840 calls on one scheduler, drawn by a linear congruential generator over 80 keys. Each line has a
 // call with its arguments, its answer, and the earliest cycle after it.
+
+#![tactic(auto)]
+
 ghost use Rattle.std.specs.Prelude.{◌<◌, ◌^◌};
 ghost use Rattle.scheduler.specs.Scheduler.{Valid};
 

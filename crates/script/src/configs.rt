@@ -9,7 +9,7 @@ use config_keys::{ABSENT, Keys};
 use words::{MISSING_WORD, UNKNOWN_NAME, find, low8, low16, skip};
 
 // A configuration, which counts where the line can be read.
-#[derive(Drop)]
+#[derive(Clone, Copy)]
 pub struct Given {
     pub config: Config,
     pub why: u8,

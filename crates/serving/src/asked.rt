@@ -7,7 +7,7 @@ use timer::calls::Call;
 
 // kind is the call's place in `timer::calls::Call`, from 0 on; of the arguments it takes those that it has.
 #[repr(C)]
-#[derive(Drop)]
+#[derive(Clone, Copy)]
 pub struct Asked {
     pub kind: u8,
     pub pin: u8,
@@ -17,7 +17,7 @@ pub struct Asked {
 }
 
 // The call that a number names, if it names one.
-#[derive(Drop)]
+#[derive(Clone, Copy)]
 pub enum Wanted {
     Known(Call),
     Unknown,

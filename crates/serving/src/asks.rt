@@ -14,7 +14,7 @@ use timer::calls::Call;
 
 // absent tells that there is no register at its address, wrong a level or a mode that there is not, tested that it may not pass the next event, halted that
 // a timer asleep cannot take it, syncs that time passes first.
-#[derive(Drop)]
+#[derive(Clone, Copy)]
 pub struct Asks {
     pub absent: bool,
     pub wrong: bool,

@@ -85,7 +85,7 @@ pub fn passed(h: Held, syncs: bool, cycle: u64) -> Timer
 }
 
 // What such a call yields, with the number that says what that is (`Reply`), and what it changes.
-#[derive(Drop)]
+#[derive(Clone, Copy)]
 struct Work {
     what: u8,
     value: u64,
@@ -189,7 +189,7 @@ fn works(t: Timer, c: Call, next: u64) -> Work
 }
 
 // The parts of a timer that such a call may change, the reply, and whether the call is done: one that is not has changed nothing.
-#[derive(Drop)]
+#[derive(Clone, Copy)]
 pub struct Looked {
     pub done: bool,
     pub counter: Counter,

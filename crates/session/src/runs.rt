@@ -22,7 +22,7 @@ use room::Room;
 const ANSWER: usize = 24_777;
 
 // What is kept from piece to piece: the bench and its shelf, the page's place, and how many bytes are held of a line.
-#[derive(Drop)]
+#[derive(Clone, Copy)]
 pub struct Run {
     pub bench: Bench,
     pub shelf: Shelf,
@@ -32,7 +32,7 @@ pub struct Run {
 
 // The run after some lines, how far the piece was read, and whether the last line asks something of the file: then the bench and the shelf before it, and the
 // place where its answer begins.
-#[derive(Drop)]
+#[derive(Clone, Copy)]
 pub struct Went {
     pub run: Run,
     pub next: usize,

@@ -74,7 +74,7 @@ pub extern "C" fn paddlemauve_distance(t: Timer) -> Distance
 }
 
 // Whether a call is done, and then its reply.
-#[derive(Drop)]
+#[derive(Clone, Copy)]
 pub struct Seen {
     pub done: bool,
     pub reply: Reply,

@@ -1,5 +1,7 @@
 // The bench shell for Rust and C: calls on a lent timer and on a lent board, and a watchdog by value.
 
+#![tactic(auto)]
+
 pub mod boards;
 pub mod exports;
 pub mod lists;

@@ -1,5 +1,7 @@
 // How far a late edge moves the capture: ticks from one edge's cycle to another's, with a sign.
 
+#![tactic(auto)]
+
 ghost use Rattle.std.specs.Prelude.{◌≤◌, ◌≡◌, cond, pos, neg_ℤ};
 ghost use Rattle.counter.specs.Valid.{Valid};
 ghost use Rattle.shift.specs.Shift.{apart, between, far_of, foremost, refusal_of, Answers};
@@ -9,7 +11,7 @@ use counter::state::Timer;
 use time::units::{Cycle, Ticks};
 
 // A refusal's number, or the tick number of the second edge less that of the first.
-#[derive(Drop)]
+#[derive(Clone, Copy)]
 pub enum Moved {
     Refused(u8),
     By(i32),

@@ -8,7 +8,7 @@ use crate::input::Input;
 use verdict::Check;
 
 // The file after the pass, and the check of what was read.
-#[derive(Drop)]
+#[derive(Clone, Copy)]
 pub struct Checked {
     pub input: Input,
     pub check: Check,

@@ -7,7 +7,7 @@ ghost use Rattle.soak.specs.Input.{opened_as, Opens, more, after_read, Reads};
 const LONGEST: u64 = 0x4000_0000;
 
 // A file descriptor, whether the file could not be opened or read, whether it is at its end, the bytes of the last chunk, and all that were read.
-#[derive(Drop)]
+#[derive(Clone, Copy)]
 pub struct Input {
     fd: i32,
     failed: bool,

@@ -1,5 +1,7 @@
 // The dump of a record log in a file, through an area of 640 bytes, in two passes: the check, then the lines.
 
+#![tactic(auto)]
+
 pub mod first_pass;
 pub mod input;
 pub mod output;
@@ -19,7 +21,7 @@ use libc::{STDERR_FILENO, STDOUT_FILENO};
 
 // The number of the refusal, 0 where there is none, the file as each pass left it, and what standard output and standard error got.
 // A log that the first pass refuses has no second: it is the first again.
-#[derive(Drop)]
+#[derive(Clone, Copy)]
 pub struct Outcome {
     pub number: u8,
     pub first: Input,

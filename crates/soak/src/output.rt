@@ -4,7 +4,7 @@ ghost use Rattle.std.specs.Prelude.{◌+◌, ◌<◌, ◌^◌, ◌≡◌, length
 ghost use Rattle.soak.specs.Output.{output_of, wrote};
 
 // A file descriptor, and how many bytes were handed to it.
-#[derive(Drop)]
+#[derive(Clone, Copy)]
 pub struct Output {
     fd: i32,
     bytes: u64,

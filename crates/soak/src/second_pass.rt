@@ -15,14 +15,14 @@ use dump::writer::Writer;
 use verdict::Check;
 
 // The writer after a chunk, and what the output got.
-#[derive(Drop)]
+#[derive(Clone, Copy)]
 struct Lines {
     writer: Writer,
     output: Output,
 }
 
 // The file after the pass, and what the output got.
-#[derive(Drop)]
+#[derive(Clone, Copy)]
 pub struct Written {
     pub input: Input,
     pub output: Output,

@@ -1,5 +1,7 @@
 // Event after event of a rising count, each from what is known of it before.
 
+#![tactic(auto)]
+
 ghost use Rattle.std.specs.Prelude.{◌+◌, ◌<◌, ◌≤◌, ◌^◌, ◌≡◌, length};
 ghost use Rattle.time.specs.Units.{ticks_at};
 ghost use Rattle.passage.specs.Passage.{Ready, Made};
@@ -13,7 +15,7 @@ use time::units::Cycle;
 
 // Where a rising run stands: the next event's cycle, the count, the quiet ticks before the event, TOP, the TIFR bits that it will raise, what
 // else ticks move, and the place of the next record.
-#[derive(Drop)]
+#[derive(Clone, Copy)]
 pub struct Rise {
     pub next: u64,
     pub to: usize,
@@ -28,7 +30,7 @@ pub struct Rise {
 }
 
 // An event's tick made aside: how the run stands after it, and its records.
-#[derive(Drop)]
+#[derive(Clone, Copy)]
 pub struct Aside {
     pub after: Rise,
     pub log: Log,

@@ -8,7 +8,7 @@ use crate::setting::{Moving, Setting};
 
 // Ticks until the next event's; the flags, as TIFR bits, that its tick will raise; and how many compares were looked at to know it.
 #[repr(C)]
-#[derive(Drop)]
+#[derive(Clone, Copy)]
 pub struct Distance {
     pub ticks: u32,
     pub flags: u8,

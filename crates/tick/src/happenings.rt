@@ -7,7 +7,7 @@ use crate::setting::{Moving, Setting};
 use wave::kinds::{ICR, fast_pwm};
 
 // What happens in a tick: matches A, B and C, at TOP or at 0, the flags, the load, BOTTOM, and a match's slope.
-#[derive(Drop)]
+#[derive(Clone, Copy)]
 pub struct Events {
     pub a: bool,
     pub b: bool,

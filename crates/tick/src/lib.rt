@@ -1,5 +1,7 @@
 // One tick with its records.
 
+#![tactic(auto)]
+
 pub mod distance;
 pub mod flags;
 pub mod happenings;

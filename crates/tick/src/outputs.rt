@@ -10,7 +10,7 @@ use time::units::Cycle;
 use wave::kinds::{FAST, NORMAL, non_pwm};
 
 // The outputs on their way through a call: levels, drives last recorded, and the place of the next record.
-#[derive(Drop)]
+#[derive(Clone, Copy)]
 pub struct Outputs {
     pub oc: [u8; 3],
     pub drives: Drives,

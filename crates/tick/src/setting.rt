@@ -12,7 +12,7 @@ use wave::kinds::{Wave, non_pwm};
 
 // A compare channel: its COM field, whether it drives its pin, the pin, and its TIFR bit.
 #[repr(C)]
-#[derive(Drop)]
+#[derive(Clone, Copy)]
 pub struct Channel {
     pub comx: u8,
     pub enabled: bool,
@@ -21,7 +21,7 @@ pub struct Channel {
 }
 
 // What a tick cannot change. capture tells whether there is a capture unit; icf is its TIFR bit.
-#[derive(Drop)]
+#[derive(Clone, Copy)]
 pub struct Setting {
     pub wave: Wave,
     pub a: Channel,
@@ -36,7 +36,7 @@ pub struct Setting {
 }
 
 // All that a tick changes.
-#[derive(Drop)]
+#[derive(Clone, Copy)]
 pub struct Moving {
     pub counter: Counter,
     pub ocr: [u32; 3],
@@ -47,7 +47,7 @@ pub struct Moving {
 
 // The drive last recorded for each channel.
 #[repr(C)]
-#[derive(Drop)]
+#[derive(Clone, Copy)]
 pub struct Drives {
     pub enables: [u8; 3],
     pub values: [u8; 3],

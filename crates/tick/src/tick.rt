@@ -11,14 +11,14 @@ use time::units::Cycle;
 use wave::count::{Counter, counted};
 
 // What moved in a tick, and the place after its records.
-#[derive(Drop)]
+#[derive(Clone, Copy)]
 pub struct Ticked {
     pub moving: Moving,
     pub to: usize,
 }
 
 // What moved in a tick, and its records in a log.
-#[derive(Drop)]
+#[derive(Clone, Copy)]
 pub struct Logged {
     pub moving: Moving,
     pub log: Log,

@@ -7,7 +7,7 @@ use crate::units::Cycle;
 
 // The cycle up to which the state is worked, the prescaler's origin, and the latest accepted cycle.
 #[repr(C)]
-#[derive(Drop)]
+#[derive(Clone, Copy)]
 pub struct Clock {
     pub sync: Cycle,
     pub origin: Cycle,

@@ -7,7 +7,7 @@ use crate::units::Cycle;
 
 // Asleep, and since when; power reduction; TSM; and the comparator's route to the capture.
 #[repr(C)]
-#[derive(Drop)]
+#[derive(Clone, Copy)]
 pub struct Halts {
     pub asleep: bool,
     pub since: Cycle,

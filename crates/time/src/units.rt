@@ -5,7 +5,7 @@ ghost use Rattle.time.specs.Units.{late_at, ticks_at, cycle_at, prescaler_at};
 
 // A CPU cycle.
 #[repr(C)]
-#[derive(Drop)]
+#[derive(Clone, Copy)]
 pub struct Cycle(pub u64);
 
 // The largest cycle that a call may have, 2^62 - 1.
@@ -34,11 +34,11 @@ impl Cycle {
 }
 
 // A prescaled tick, by its number from the prescaler's origin on.
-#[derive(Drop)]
+#[derive(Clone, Copy)]
 pub struct Ticks(pub u64);
 
 // Ticks fall at origin + k × divisor.
-#[derive(Drop)]
+#[derive(Clone, Copy)]
 pub struct Prescaler {
     pub origin: Cycle,
     pub divisor: u32,
@@ -76,7 +76,7 @@ impl Prescaler {
 }
 
 // A prescaler whose divisor is 2^shift, so that no division is left; its shift is 63 where the counter does not run, so that no tick passes.
-#[derive(Drop)]
+#[derive(Clone, Copy)]
 pub struct FastPrescaler {
     pub origin: Cycle,
     pub shift: u64,

@@ -1,6 +1,6 @@
 // The calls, each with its arguments.
 
-#[derive(Drop)]
+#[derive(Clone, Copy)]
 pub enum Call {
     Advance,
     Next,

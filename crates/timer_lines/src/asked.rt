@@ -7,7 +7,7 @@ use timer::calls::Call;
 use words::{Cursor, Taken, decimal, exactly, hexadecimal, low8, low16, none};
 
 // The call with its cycle, the area's size, and why the line cannot be read.
-#[derive(Drop)]
+#[derive(Clone, Copy)]
 pub struct Asked {
     pub call: Call,
     pub cycle: u64,

@@ -3,14 +3,14 @@
 use counter::state::Timer;
 
 // The timer counts once a configuration was accepted.
-#[derive(Drop)]
+#[derive(Clone, Copy)]
 pub struct Socket {
     pub ready: bool,
     pub timer: Timer,
 }
 
 // The timer after a line, the place after what was put on the page, and how many bytes of the area are records.
-#[derive(Drop)]
+#[derive(Clone, Copy)]
 pub struct Left {
     pub socket: Socket,
     pub at: usize,
@@ -18,7 +18,7 @@ pub struct Left {
 }
 
 // The timer after a line that makes one, the place after what was put on the page, and whether there is a fresh one.
-#[derive(Drop)]
+#[derive(Clone, Copy)]
 pub struct Made {
     pub socket: Socket,
     pub at: usize,

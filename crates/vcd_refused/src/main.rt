@@ -1,6 +1,8 @@
 // Runs the dump of `vcd` on files that are refused, and on an empty one. Standard error is a file meanwhile, so that each descriptor is seen on its own:
 // a path, what standard output gets, a line `-- standard error`, and what that file then holds.
 
+#![tactic(auto)]
+
 use libc::{STDERR_FILENO, STDOUT_FILENO};
 
 // One record longer than the longest log: 2^30 is no multiple of ten.

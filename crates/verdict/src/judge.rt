@@ -7,7 +7,7 @@ ghost use Rattle.verdict.specs.Check.{first_fault, refused_after, judged};
 use pieces::Whole;
 
 // The cycle of the last record, and the first number among those so far, 0 where there is none.
-#[derive(Drop)]
+#[derive(Clone, Copy)]
 pub struct Judge {
     last: u64,
     found: u8,

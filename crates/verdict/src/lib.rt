@@ -1,5 +1,7 @@
 // The check of a record log that comes in pieces: why it is refused, and the pins that it drives.
 
+#![tactic(auto)]
+
 pub mod judge;
 
 ghost use Rattle.std.specs.Prelude.{◌≡◌};
@@ -12,7 +14,7 @@ use pieces::Part;
 const LONGEST: u64 = 0x4000_0000;
 
 // What is kept of the pieces so far: the record that is not whole, the bytes seen, the judgement of the whole records, and the pins that they drive.
-#[derive(Drop)]
+#[derive(Clone, Copy)]
 pub struct Check {
     part: Part,
     seen: u64,

@@ -11,7 +11,7 @@ use oscillator::state::Watchdog;
 use time::units::Cycle;
 
 // A call with its arguments.
-#[derive(Drop)]
+#[derive(Clone, Copy)]
 pub enum Call {
     Advance,
     Next,

@@ -1,5 +1,7 @@
 // The watchdog beside the timers: the count of its own oscillator, its time-outs, and WDTCSR.
 
+#![tactic(auto)]
+
 pub mod calls;
 pub mod outcome;
 

@@ -8,7 +8,7 @@ use oscillator::state::Watchdog;
 use time::units::Cycle;
 
 // A refusal's number; or done, WDTCSR as read, the next event, or the sync cycle of an advance that stopped.
-#[derive(Drop)]
+#[derive(Clone, Copy)]
 pub enum Answer {
     Refused(u8),
     Done,
@@ -18,7 +18,7 @@ pub enum Answer {
 }
 
 // The answer, the watchdog after the call, and the bytes written from the area's start.
-#[derive(Drop)]
+#[derive(Clone, Copy)]
 pub struct Outcome {
     pub answer: Answer,
     pub watchdog: Watchdog,

@@ -10,7 +10,7 @@ use std::num::wrapping_add_u64;
 // TCNTn, the way it goes in P and Q (plus or minus one), whether a write of it blocks the next match, and the counts made
 // since the reset.
 #[repr(C)]
-#[derive(Drop)]
+#[derive(Clone, Copy)]
 pub struct Counter {
     pub count: u32,
     pub direction: i32,

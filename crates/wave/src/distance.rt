@@ -8,7 +8,7 @@ use crate::count::{Counter, counted};
 use crate::kinds::Wave;
 
 // What a search found: the quiet ticks before the next event's, and how many compares it looked at.
-#[derive(Drop)]
+#[derive(Clone, Copy)]
 pub struct Search {
     pub gap: u32,
     pub looked: u8,

@@ -22,7 +22,7 @@ pub const OCRA: u8 = 1;
 pub const ICR: u8 = 2;
 
 // The waveform that mode and registers set: what decides the count. a, b and c tell which compares there are.
-#[derive(Drop)]
+#[derive(Clone, Copy)]
 pub struct Wave {
     pub kind: u8,
     pub source: u8,

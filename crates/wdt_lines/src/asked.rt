@@ -7,7 +7,7 @@ use watchdog::calls::Call;
 use words::{Cursor, Taken, decimal, exactly, hexadecimal, low8, none};
 
 // A line by its name's place among the commands, its call with its cycle, the area's size, and why the line cannot be read.
-#[derive(Drop)]
+#[derive(Clone, Copy)]
 pub struct Asked {
     pub name: usize,
     pub call: Call,

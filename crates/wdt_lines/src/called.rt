@@ -16,14 +16,14 @@ use watchdog::outcome::Outcome;
 use words::{FINE, MISSING_WORD, UNKNOWN_COMMAND, find, place, skip};
 
 // The watchdog counts once a line made one.
-#[derive(Drop)]
+#[derive(Clone, Copy)]
 pub struct Watched {
     pub ready: bool,
     pub watchdog: Watchdog,
 }
 
 // The watchdog after a line, and the place after what was put on the page.
-#[derive(Drop)]
+#[derive(Clone, Copy)]
 pub struct Left {
     pub watched: Watched,
     pub at: usize,

@@ -7,7 +7,7 @@ use time::units::Cycle;
 
 // WDTCSR without WDCE: the flag, the interrupt's and the reset's enable, and the prescaler, 0 to 9.
 #[repr(C)]
-#[derive(Drop)]
+#[derive(Clone, Copy)]
 pub struct Control {
     pub wdif: bool,
     pub wdie: bool,
@@ -17,7 +17,7 @@ pub struct Control {
 
 // The timed sequence: whether the last write was of WDCE and WDE together, and its cycle.
 #[repr(C)]
-#[derive(Drop)]
+#[derive(Clone, Copy)]
 pub struct Window {
     pub wdce: bool,
     pub since: Cycle,
@@ -25,7 +25,7 @@ pub struct Window {
 
 // What the oscillator moves.
 #[repr(C)]
-#[derive(Drop)]
+#[derive(Clone, Copy)]
 pub struct Moving {
     pub count: u32,
     pub control: Control,

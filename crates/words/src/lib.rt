@@ -1,5 +1,7 @@
 // The words of a line, which are names and numbers, and why a line cannot be read.
 
+#![tactic(auto)]
+
 pub mod volts;
 
 ghost use Rattle.std.specs.Prelude.{◌≡◌, ◌+◌, ◌*◌, ◌%◌, ◌<◌, ◌≤◌, min, length, drop};
@@ -28,28 +30,28 @@ pub const TOO_LONG: u8 = 8;
 pub const NOT_OPENED: u8 = 9;
 
 // What a word says, 0 where it cannot be read.
-#[derive(Drop)]
+#[derive(Clone, Copy)]
 pub struct Read {
     pub value: u64,
     pub why: u8,
 }
 
 // Where reading stands in a line, and why it stopped there.
-#[derive(Drop)]
+#[derive(Clone, Copy)]
 pub struct Cursor {
     pub at: usize,
     pub why: u8,
 }
 
 // A number of a line, and where reading goes on.
-#[derive(Drop)]
+#[derive(Clone, Copy)]
 pub struct Taken {
     pub value: u64,
     pub next: Cursor,
 }
 
 // Of a word KEY=VALUE, the key's place in a list of names, and where the value begins.
-#[derive(Drop)]
+#[derive(Clone, Copy)]
 pub struct Pair {
     pub key: usize,
     pub value: usize,

@@ -10,7 +10,7 @@ use crate::{FINE, MALFORMED, Read, TOO_LARGE, digit, find, unread};
 const ROOM: u64 = 100_000_000_000_000;
 
 // Volts, 0 where the word cannot be read.
-#[derive(Drop)]
+#[derive(Clone, Copy)]
 pub struct Volts {
     pub value: f64,
     pub why: u8,

@@ -1,5 +1,7 @@
 // A lent list of register writes, worked in one call.
 
+#![tactic(auto)]
+
 ghost use Rattle.std.specs.Prelude.{◌≡◌};
 ghost use Rattle.passage.specs.Passage.{ticks};
 ghost use Rattle.counter.specs.Valid.{Valid};
@@ -15,7 +17,7 @@ use time::units::Cycle;
 
 // Why a list ended: every item is done, an advance paused at its sync cycle with the flags of the then next event, or a
 // refusal's number.
-#[derive(Drop)]
+#[derive(Clone, Copy)]
 pub enum Why {
     AllDone,
     Paused(Cycle, u8),
@@ -23,7 +25,7 @@ pub enum Why {
 }
 
 // The timer after the list, the items done, the bytes written from the area's start, and why it ended.
-#[derive(Drop)]
+#[derive(Clone, Copy)]
 pub struct Written {
     pub timer: Timer,
     pub done: usize,

@@ -1,12 +1,12 @@
--- `log::Ring::add` meets its contract: the area is another, or the places are full, or one is free.
+-- `record_ring::Ring::add` meets its contract: the area is another, or the places are full, or one is free.
 use mathlib.Core.Path.{◌≡◌}
 use native.Mathlib.Omega.{arith}
 use lib.ListN.{length}
 use borrow.Author.Rules.{rules}
 use borrow.Author.Tests.{eq-eqb, ne_eqb}
-use Rattle.log.specs.Log.{added}
-use Rattle.log.proofs.Ring.add.Statement.{statement}
-use Rattle.log.proofs.Ring.add.Tie as tie
+use Rattle.record_ring.specs.Log.{added}
+use Rattle.record_ring.proofs.Ring.add.Statement.{statement}
+use Rattle.record_ring.proofs.Ring.add.Tie as tie
 
 returns : tie.Need-returns
 unfolding added

@@ -2,7 +2,7 @@
 
 ghost use Rattle.std.specs.Prelude.{◌+◌, ◌≤◌, ◌≡◌, length};
 ghost use Rattle.std.proofs.lemmas.List.Edits.{sets};
-ghost use Rattle.log.specs.Log.{added, Valid};
+ghost use Rattle.record_ring.specs.Log.{added, Valid};
 
 use crate::{Answer, BYTES, PLACES, Ring};
 

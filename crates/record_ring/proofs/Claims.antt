@@ -10,11 +10,11 @@ use lib.Dec.{eqb, leb}
 use lib.ListN.{length, get_or, drop, length-append, length-drop, get_or-append}
 use lib.Seq.{sets, length-sets, get_or-append_seam, get_or-drop, drop-drop, drop-append-le}
 use borrow.Author.Tests.{eqb-true, eqb-false, leb-true}
-use Rattle.log.specs.declared.Ring.{Ring}
+use Rattle.record_ring.specs.declared.Ring.{Ring}
 use Rattle.records.specs.Records.{record_at}
-use Rattle.log.specs.Log.{empty, added, released, place_of, Valid}
-use Rattle.log.specs.Claims.{Call, add, release, Soak, fresh, answered, after, run, numbers, Account, nothing, number_of, booked, noted, account, numbers_of, soaked, accounted, Answers, Keeps, Placed, Accounts, History, none, called, CodeIsRun, Reading}
-use Rattle.log.proofs.Places.{at_place, elsewhere}
+use Rattle.record_ring.specs.Log.{empty, added, released, place_of, Valid}
+use Rattle.record_ring.specs.Claims.{Call, add, release, Soak, fresh, answered, after, run, numbers, Account, nothing, number_of, booked, noted, account, numbers_of, soaked, accounted, Answers, Keeps, Placed, Accounts, History, none, called, CodeIsRun, Reading}
+use Rattle.record_ring.proofs.Places.{at_place, elsewhere}
 
 -- what ties a log and its area to the account of the same calls
 record Tied (size : ℕ) (t : Soak) (k : Account) : Type 0 where

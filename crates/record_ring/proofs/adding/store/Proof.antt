@@ -1,4 +1,4 @@
--- `log::adding::store` meets its contract: byte by byte.
+-- `record_ring::adding::store` meets its contract: byte by byte.
 use Prim.Native.Nat.{◌-◌, ◌≤◌, ◌<◌}
 use mathlib.Core.Path.{◌≡◌, refl}
 use native.Mathlib.Omega.{arith}
@@ -6,8 +6,8 @@ use lib.ListN.{length, take, length-set}
 use lib.Seq.{sets, take_all}
 use borrow.Author.Rules.{rules}
 use Rattle.records.proofs.Records.{sets_more}
-use Rattle.log.proofs.adding.store.Statement.{statement}
-use Rattle.log.proofs.adding.store.Tie as tie
+use Rattle.record_ring.proofs.adding.store.Statement.{statement}
+use Rattle.record_ring.proofs.adding.store.Tie as tie
 
 -- the first i bytes are stored, and the area is as long as it was
 abbrev invariant-loop : tie.invariant-loop

@@ -1,12 +1,12 @@
--- `log::Ring::release` meets its contract: the area is another, or more are released than held, or they are dropped.
+-- `record_ring::Ring::release` meets its contract: the area is another, or more are released than held, or they are dropped.
 use Prim.Native.Nat.{◌≤◌, ◌<◌}
 use mathlib.Core.Path.{◌≡◌}
 use native.Mathlib.Omega.{arith}
 use lib.ListN.{length}
 use borrow.Author.Tests.{eq-eqb, ne_eqb, le-leb, lt-leb}
-use Rattle.log.specs.Log.{released}
-use Rattle.log.proofs.Ring.release.Statement.{statement}
-use Rattle.log.proofs.Ring.release.Tie as tie
+use Rattle.record_ring.specs.Log.{released}
+use Rattle.record_ring.proofs.Ring.release.Statement.{statement}
+use Rattle.record_ring.proofs.Ring.release.Tie as tie
 
 returns : tie.Need-returns
 unfolding released

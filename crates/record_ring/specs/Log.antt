@@ -1,7 +1,7 @@
 -- A log that gives its space back (02, 2.12): what each call answers, the log after it and every byte of the area after it.
 use Rattle.std.specs.Prelude.{ℕ, ◌+◌, ◌-◌, ◌*◌, ◌%◌, ◌≤◌, ◌<◌, Bool, cond, List, eqb, leb, length}
 use Rattle.std.proofs.lemmas.List.Edits.{sets}
-use Rattle.log.specs.declared.Ring.{Ring}
+use Rattle.record_ring.specs.declared.Ring.{Ring}
 
 -- what the calls keep of a log (02, 2.12: up to 6,000 records, at places 0 to 5,999)
 pub record Valid (s : Ring) : Type 0 where

@@ -1,11 +1,13 @@
 // A log of up to 6,000 records of ten bytes in a lent area, which gives the space of released records back. A log goes in
 // by value and comes back.
 
+#![tactic(auto)]
+
 mod adding;
 mod releasing;
 
 ghost use Rattle.std.specs.Prelude.{◌≡◌};
-ghost use Rattle.log.specs.Log.{empty, place_of, Valid};
+ghost use Rattle.record_ring.specs.Log.{empty, place_of, Valid};
 
 // How many records are held at most, and the bytes of the area that they lie in.
 pub const PLACES: usize = 6000;
@@ -13,7 +15,7 @@ pub const PLACES: usize = 6000;
 pub const BYTES: usize = 60000;
 
 #[repr(C)]
-#[derive(Drop)]
+#[derive(Clone, Copy)]
 pub struct Ring {
     // The place of the next record, 0 to 5,999.
     pub next: usize,
@@ -23,7 +25,7 @@ pub struct Ring {
 
 // What a call answers: 0, or the number of its refusal; and the log after it.
 #[repr(C)]
-#[derive(Drop)]
+#[derive(Clone, Copy)]
 pub struct Answer {
     pub number: u8,
     pub ring: Ring,

@@ -1,7 +1,7 @@
 // The shell has read records, and their places are free.
 
 ghost use Rattle.std.specs.Prelude.{◌≡◌};
-ghost use Rattle.log.specs.Log.{released, Valid};
+ghost use Rattle.record_ring.specs.Log.{released, Valid};
 
 use crate::{Answer, BYTES, Ring};
 

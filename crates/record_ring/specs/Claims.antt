@@ -1,9 +1,9 @@
 -- What is proved of a log beside the functions (02, 2.12): over any list of calls from the empty log, on one area that nobody else writes.
 use Rattle.std.specs.Prelude.{ℕ, ◌+◌, ◌%◌, ◌≤◌, ◌<◌, ◌≡◌, cond, List, [], ◌∷◌, ◌++◌, eqb, leb, length, get_or, drop}
-use Rattle.log.specs.declared.Ring.{Ring}
-use Rattle.log.specs.declared.Answer.{Answer}
+use Rattle.record_ring.specs.declared.Ring.{Ring}
+use Rattle.record_ring.specs.declared.Answer.{Answer}
 use Rattle.records.specs.Records.{record_at}
-use Rattle.log.specs.Log.{empty, added, released, place_of, Valid}
+use Rattle.record_ring.specs.Log.{empty, added, released, place_of, Valid}
 
 -- a call of each method; adding takes one ten-byte record
 pub data Call : Type 0 where
