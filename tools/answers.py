@@ -21,6 +21,20 @@ def same(a, b):
     return a.replace("_", "-") == b.replace("_", "-")
 
 
+def parameters(home, rel):
+    """The names of a function's parameters, from the source."""
+    name = rel.split("/")[-1].lstrip("+")
+    for folder, _, found in os.walk(os.path.join(home, "src")):
+        for file in sorted(found):
+            with open(os.path.join(folder, file), encoding="utf-8") as fh:
+                text = fh.read()
+            m = re.search(r"\bfn " + re.escape(name) + r"\b[^(]*\(([^)]*)\)", text)
+            if m:
+                parts = [p.strip() for p in re.sub(r"\[[^\]]*\]", "", m.group(1)).split(",") if p.strip()]
+                return [re.sub(r"^(mut |&mut |&)+", "", p.split(":")[0]).strip() for p in parts]
+    return []
+
+
 class Function:
     def __init__(self, names):
         self.needs = names["needs"]
@@ -31,7 +45,10 @@ class Function:
         self.arms = names["arms"]
         self.loops = names["loops"]
         self.changed = names["changed"]
-        self.settled = names.get("settled", [])
+        self.params = []
+
+    def parameter(self, n):
+        return self.params[n - 1] if n <= len(self.params) else f"t{n}"
 
     def need(self, word):
         for i, (old, new) in enumerate(self.needs):
@@ -85,18 +102,37 @@ class Function:
         return old[1]
 
 
-def turn(text, var, f, at, notes):
+def above(f, at, depth):
+    chain = f.chain(at)
+    return chain[min(depth, len(chain) - 1)]
+
+
+def turn(text, var, f, at, notes, to=None):
+    to = to or var
+    # a name for an earlier place: its steps are named from the goal's own record
+    while True:
+        m = re.search(r"let (" + ID + r"+) = " + re.escape(var) + r"((?:\.before)+) in[ \n]\s*", text)
+        if not m:
+            break
+        indent = re.search(r"\s*$", text[: m.start()]).group(0)
+        text = text[: m.start()] + turn(text[m.end():], m.group(1), f, above(f, at, m.group(2).count(".before")), notes, to)
+
     def one(m):
         depth = m.group(1).count(".before")
         field = m.group(2)
         if field is None:
-            if depth:
+            if depth or var != to:
                 notes.append("a record of an earlier place is passed: " + m.group(0))
+                if var != to:
+                    return to
             return m.group(0)
-        return f"{var}.{f.path(at, depth, field, notes)}"
+        return f"{to}.{f.path(at, depth, field, notes)}"
 
     text = re.sub(r"(?<![\w.'-])" + re.escape(var) + r"((?:\.before)*)(?:\.(" + ID + r"+))?(?![\w'-])", one, text)
-    return re.sub(r"\.is\.keys\d+", ".is", text)
+    text = re.sub(r"\.is\.keys\d+", ".is", text)
+    text = re.sub(r"\.is\.given(\.1)?(?![\w'-])", ".is", text)
+    text = re.sub(r"\.(in-" + ID + r"+)\." + ID + r"+\.given(\.1)?(?![\w'-])", r".\1.is", text)
+    return re.sub(r"(?<=\.)t(\d+)(?![\w'-])", lambda m: f.parameter(int(m.group(1))), text)
 
 
 def blocks(text):
@@ -237,6 +273,7 @@ def convert(crate, path, f, folder):
             continue
         # a lemma of the file's own
         lem = body
+        lem = re.sub(r"\(c : tie\.(" + ID + r"+)(?: (?:invariant|decreases)-" + ID + r"+)+\)", r"(c : tie.\1)", lem)
         mm = re.search(r"\(c : tie\.(" + ID + r"+)\)", lem)
         if mm:
             at = f.place(mm.group(1))
@@ -287,7 +324,9 @@ def main():
                 print(f"{path}: no names for {key}")
                 continue
             try:
-                got = convert(crate, path, Function(names[key]), rel)
+                f = Function(names[key])
+                f.params = parameters(home, rel)
+                got = convert(crate, path, f, rel)
             except Exception as e:  # noqa: BLE001: a proof that this script can't read is left as it is
                 print(f"{path}: {type(e).__name__} {e}")
                 continue

@@ -1,6 +1,6 @@
 // Quiet ticks ahead, and the count after them.
 
-ghost use Rattle.std.specs.Prelude.{◌≡◌, ◌+◌, ◌<◌, ◌≤◌, min, true, if◌then◌else◌};
+ghost use Rattle.std.specs.Prelude.{◌≡◌, ◌+◌, ◌<◌, ◌≤◌, min, true, cond};
 ghost use Rattle.wave.specs.Count.{Turns, falls};
 ghost use Rattle.wave.specs.Distance.{space, ahead, reach, gap, sought_at, searched, moved, skipped};
 
@@ -35,7 +35,7 @@ fn nearer(down: bool, count: u32, compare: u32, gap: u32) -> u32
 
 // The count n ticks on.
 pub fn moved(down: bool, count: u32, n: u32) -> u32
-    requires { if down then (n ≤ count) else (count + n < 65536) }
+    requires { cond down (n ≤ count) (count + n < 65536) }
     ensures { result ≡ moved down count n }
 {
     if down { count - n } else { count + n }
@@ -112,7 +112,7 @@ impl Wave {
 impl Counter {
     // n quiet ticks in one step; none leave the block as it was.
     pub fn skip(self, wave: Wave, n: u32) -> Counter
-        requires { (Turns self.direction) × (if falls wave self then (n ≤ self.count) else (self.count + n < 65536)) }
+        requires { (Turns self.direction) × (cond (falls wave self) (n ≤ self.count) (self.count + n < 65536)) }
         ensures { result ≡ skipped wave n self }
     {
         let direction = self.direction;

@@ -1,0 +1,12 @@
+use mathlib.Core.Path.{refl}
+use Prim.Native.Nat.{◌-◌}
+use Rattle.few.specs.Few.{distinct}
+use Rattle.few.proofs.Passing.{Left, decides, passes, ends}
+use borrow.Author.Rules.{rules}
+use Rattle.few.proofs.Few.distinct.Given as goal
+
+abbrev pub invariant-loop-i : goal.invariant-loop-i
+invariant-loop-i l = Left distinct l.items l.len 0 l.i
+
+abbrev pub decreases-loop-i : goal.decreases-loop-i
+decreases-loop-i l = l.len - l.i

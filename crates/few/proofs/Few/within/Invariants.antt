@@ -1,0 +1,13 @@
+use borrow.Author.Tests.{lt-leb, le-leb}
+use mathlib.Core.Path.{refl}
+use Prim.Native.Nat.{◌-◌}
+use Rattle.few.specs.Few.{within}
+use Rattle.few.proofs.Passing.{Left, decides, passes, ends}
+use borrow.Author.Rules.{rules}
+use Rattle.few.proofs.Few.within.Given as goal
+
+abbrev pub invariant-loop-i : goal.invariant-loop-i
+invariant-loop-i l = Left (within l.bound) l.items l.len 0 l.i
+
+abbrev pub decreases-loop-i : goal.decreases-loop-i
+decreases-loop-i l = l.len - l.i

@@ -1,0 +1,13 @@
+-- `pins::Pin::answer_bit` meets its contract: each arm rewrites with the test of the number, by what `refusal_number` ensures. Assumes nothing.
+use borrow.Author.Rules.{rules}
+use borrow.Author.Tests.{eq-eqb, ne_eqb}
+use Rattle.pins.specs.Pins.{answer}
+use Rattle.pins.proofs.Pin.answer_bit.Goals as goal
+
+pub returns-then-n-ne0 : goal.returns-then-n-ne0
+unfolding answer
+returns-then-n-ne0 c = simp (← c.refusal_number-n.ensures, ne_eqb _ _ c.if-n-ne0.true)
+
+pub returns-else-n-ne0 : goal.returns-else-n-ne0
+unfolding answer
+returns-else-n-ne0 c = simp (← c.refusal_number-n.ensures, eq-eqb _ _ c.if-n-ne0.false)

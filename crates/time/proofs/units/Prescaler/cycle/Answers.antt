@@ -1,0 +1,17 @@
+use native.Mathlib.Omega.{arith}
+use mathlib.Core.Path.{refl}
+use borrow.Author.Rules.{rules}
+use Rattle.time.specs.Units.{cycle_at}
+use Rattle.time.proofs.units.Prescaler.cycle.Goals as goal
+
+pub overflow_mul-result : goal.overflow_mul-result
+unfolding cycle_at
+overflow_mul-result c = record { fits = omega arith }
+
+pub overflow_add-result : goal.overflow_add-result
+unfolding cycle_at
+overflow_add-result c = record { fits = omega arith }
+
+pub returns : goal.returns
+unfolding cycle_at
+returns c = refl

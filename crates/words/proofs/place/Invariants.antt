@@ -1,0 +1,12 @@
+-- `words::place` meets its contract. The loop's invariant: the names passed are others, and the word's place is counted on from the next.
+use Rattle.std.proofs.Common.{◌≡◌, ◌+◌, ◌-◌, ◌≤◌, length, drop, sym, refl, ap, ◌∙◌, arith, rules}
+use mathlib.Core.Bool.{false≢true}
+use Rattle.words.specs.Words.{words, place_in, skip_of}
+use Rattle.words.proofs.Places.{AtWord, at-word, words-skipped, words_more, words-none, place_here, place-later}
+use Rattle.words.proofs.place.Given as goal
+
+abbrev pub invariant-loop-at : goal.invariant-loop-at
+invariant-loop-at l = (l.n ≤ l.at) × AtWord l.names l.at × (l.n + place_in l.word (words (drop l.at l.names)) ≡ place_in l.word (words l.names))
+
+abbrev pub decreases-loop-at : goal.decreases-loop-at
+decreases-loop-at l = length l.names - l.at
