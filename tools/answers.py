@@ -223,6 +223,29 @@ def convert(crate, path, f, folder):
         if a.startswith("(λ"):
             inline[j] = a
     seen = set()
+    # a lemma over the record of a place is put in where it is used
+    inner, kept = {}, []
+    for body in rest:
+        body = re.sub(r"\(c : tie\.(" + ID + r"+)(?: (?:invariant|decreases)-" + ID + r"+)+\)", r"(c : tie.\1)", body)
+        mm = re.search(r"^(" + ID + r"+)\s*:\s*\(c : tie\.(" + ID + r"+)\)", body, re.M)
+        eqs = mm and re.findall(r"^" + re.escape(mm.group(1)) + r"((?:[ \t]+[^\s=]+)*)[ \t]*=", body, re.M)
+        if mm and len(eqs) == 1 and eqs[0].split() == ["c"] and f.place(mm.group(2)) is not None:
+            eq = re.search(r"^" + re.escape(mm.group(1)) + r"[ \t]+c[ \t]*=\s*", body, re.M)
+            inner[mm.group(1)] = (f.place(mm.group(2)), body[eq.end():].strip(), re.search(r"^unfolding .*$", body, re.M))
+            if inner[mm.group(1)][2]:
+                notes.append(f"{mm.group(1)} is put in where it is used: its '{inner[mm.group(1)][2].group(0)}' goes there")
+        else:
+            kept.append(body)
+    rest = kept
+
+    def put(text):
+        for _ in range(3):
+            for name, (place, lem, _u) in inner.items():
+                body = "(" + turn(re.sub(r"\n\s*", " ", lem), "c", f, place, notes).replace("\n", " ") + ")"
+                body = re.sub(r"(?<![\w.'-])c\.", "§.", body)
+                text = re.sub(r"(?<![\w.'-])" + re.escape(name) + r" (?:c|§)(?:\.before)*(?![\w.'-])", lambda _m: body, text)
+        return text
+
     for body in rest:
         sig = re.search(r"^((?:(?:abbrev|unfoldable|pub)\s+)*)(" + ID + r"+)\s*:\s*tie\.(\S+)(.*)$", body, re.M)
         comment = ""
@@ -264,9 +287,9 @@ def convert(crate, path, f, folder):
                 notes.append("no equation for " + word)
                 continue
             var = eq.group(2)
-            rhs = turn(below[eq.end():], var, f, at, notes)
+            rhs = turn(put(below[eq.end():]), var, f, at, notes).replace("§", var)
             mid = below[: eq.start()].strip("\n")
-            if re.fullmatch(r"\s*search rules\s*", rhs):
+            if re.fullmatch(r"\s*search rules\s*", rhs) and "unfolding" not in mid:
                 continue
             answers.append((i, f"{above}pub {new} : goal.{new}\n" + (mid + "\n" if mid else "") + f"{new} {var} ={rhs}"))
             named[sig.group(2)] = new
