@@ -308,7 +308,7 @@ def convert(crate, path, f, folder):
             var = eq.group(2)
             rhs = turn(put(below[eq.end():]), var, f, at, notes).replace("§", var)
             mid = below[: eq.start()].strip("\n")
-            if re.fullmatch(r"\s*search rules\s*", rhs) or new.startswith("shape_of"):
+            if (re.fullmatch(r"\s*search rules\s*", rhs) and "unfolding" not in mid) or new.startswith("shape_of"):
                 continue
             answers.append((i, f"{above}pub {new} : goal.{new}\n" + (mid + "\n" if mid else "") + f"{new} {var} ={rhs}"))
             named[sig.group(2)] = new
