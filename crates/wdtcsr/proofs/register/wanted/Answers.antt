@@ -1,0 +1,6 @@
+use native.Mathlib.Omega.{arith}
+use borrow.Author.Rules.{rules}
+use Rattle.wdtcsr.proofs.register.wanted.Goals as goal
+
+pub returns : goal.returns
+returns c = (simp (c.weight.ensures.0, c.bit.ensures), omega (arith, c.weight.ensures.1))

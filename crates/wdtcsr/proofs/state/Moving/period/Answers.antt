@@ -1,0 +1,6 @@
+use Rattle.wdtcsr.proofs.Bounds.{period-at}
+use borrow.Author.Rules.{rules}
+use Rattle.wdtcsr.proofs.state.Moving.period.Goals as goal
+
+pub returns : goal.returns
+returns c = (period-at c.args.self.control.wdp c.requires).0

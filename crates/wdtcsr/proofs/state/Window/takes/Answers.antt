@@ -1,0 +1,7 @@
+use Rattle.wdtcsr.specs.Wdtcsr.{takes}
+use borrow.Author.Rules.{rules}
+use Rattle.wdtcsr.proofs.state.Window.takes.Goals as goal
+
+pub returns : goal.returns
+unfolding takes
+returns c = simp (c.is_open.ensures, c.bit.ensures)

@@ -1,0 +1,7 @@
+use Rattle.wdtcsr.specs.Wdtcsr.{too_long}
+use borrow.Author.Rules.{rules}
+use Rattle.wdtcsr.proofs.state.Window.too_long.Goals as goal
+
+pub returns : goal.returns
+unfolding too_long
+returns c = simp (c.takes.ensures, c.wanted.ensures.0)
