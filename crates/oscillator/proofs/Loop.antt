@@ -142,12 +142,3 @@ module _ {m₀ : Moving} {from end : ℕ} {before : List ℕ} {m : Moving} {at t
         room = g.bytes;
         upto = le_refl end;
       }
-
--- the loop's test, and its other side
-pub loud : (b : Bool) {x : Bool} → b ≡ x → not b ≡ true → x ≡ false
-loud true e h = absurd (false≢true h)
-loud false e h = sym e
-
-pub calm : (b : Bool) {x : Bool} → b ≡ x → not b ≡ false → x ≡ true
-calm true e h = sym e
-calm false e h = absurd (false≢true (sym h))

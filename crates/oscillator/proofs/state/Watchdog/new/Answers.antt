@@ -2,8 +2,7 @@ use Rattle.oscillator.specs.State.{fresh, Valid}
 use native.Mathlib.Omega.{arith}
 use mathlib.Core.Path.{refl}
 use borrow.Author.Rules.{rules}
-use Rattle.oscillator.proofs.state.Watchdog.new.Statement.{statement}
-use Rattle.oscillator.proofs.state.Watchdog.new.Tie as tie
+use Rattle.oscillator.proofs.state.Watchdog.new.Goals as goal
 
 fresh-is-valid : Valid fresh
 fresh-is-valid =
@@ -14,8 +13,5 @@ fresh-is-valid =
       latest = omega arith;
     }
 
-returns : tie.Need-returns
+pub returns : goal.returns
 returns c = rw c.shut.ensures (refl, fresh-is-valid)
-
-pub new_spec : {M : Type 1} → statement M
-new_spec = tie.close (tie.spec (λ c κs. search rules) returns)

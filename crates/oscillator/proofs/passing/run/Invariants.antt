@@ -1,0 +1,13 @@
+use borrow.Author.Rules.{rules}
+use Rattle.wdtcsr.proofs.Bounds.{gap-small}
+use Rattle.wdtcsr.proofs.Ticks.{loud-gap, quiet-to-gap}
+use Rattle.oscillator.proofs.Loop.{Going, begins, near-cycle, turned, halted, ended}
+use native.Mathlib.Omega.{arith}
+use Prim.Native.Nat.{◌-◌}
+use Rattle.oscillator.proofs.passing.run.Given as goal
+
+abbrev pub invariant-loop-gap : goal.invariant-loop-gap
+invariant-loop-gap l = Going l.initial.m l.initial.at l.end.0 l.initial.area l.m l.at l.to l.area
+
+abbrev pub decreases-loop-gap : goal.decreases-loop-gap
+decreases-loop-gap l = l.end.0 - l.at

@@ -1,0 +1,5 @@
+use borrow.Author.Rules.{rules}
+use Rattle.oscillator.proofs.state.Watchdog.synced.Goals as goal
+
+pub returns : goal.returns
+returns c = rw (← c.later-w.ensures)
