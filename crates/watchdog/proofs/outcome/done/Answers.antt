@@ -1,0 +1,5 @@
+use borrow.Author.Rules.{rules}
+use Rattle.watchdog.proofs.outcome.done.Goals as goal
+
+pub returns : goal.returns
+returns c = simp c.accepted.ensures
