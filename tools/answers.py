@@ -81,6 +81,7 @@ class Function:
             return field
         target = chain[depth]
         old = self.list[target][2]
+        field = "well_formed" if field == "well-formed" else field
         if target == chain[-1] or field in ("args", "requires", "ranges", "well_formed", "lifetimes"):
             return field
         own = old[0]
@@ -223,6 +224,38 @@ def convert(crate, path, f, folder):
         if a.startswith("(λ"):
             inline[j] = a
     seen = set()
+    # a lemma over the record of a place is put in where it is used
+    inner, kept, types = {}, [], {}
+    for body in rest:
+        body = re.sub(r"\(c : tie\.(" + ID + r"+)(?: (?:invariant|decreases)-" + ID + r"+)+\)", r"(c : tie.\1)", body)
+        mm = re.search(r"^(" + ID + r"+)\s*:\s*\(c : tie\.(" + ID + r"+)\)", body, re.M)
+        eqs = mm and re.findall(r"^" + re.escape(mm.group(1)) + r"((?:[ \t]+[^\s=]+)*)[ \t]*=", body, re.M)
+        if mm and len(eqs) == 1 and eqs[0].split() == ["c"] and f.place(mm.group(2)) is not None:
+            eq = re.search(r"^" + re.escape(mm.group(1)) + r"[ \t]+c[ \t]*=\s*", body, re.M)
+            whole = re.search(r"→\s*([\s\S]*?)\n" + re.escape(mm.group(1)) + r"[ \t]+c", re.sub(r"\nunfolding .*", "", body))
+            told = whole and body[mm.end():].lstrip().startswith("→")
+            if told:
+                types[mm.group(1)] = whole.group(1).strip()
+            inner[mm.group(1)] = (f.place(mm.group(2)), body[eq.end():].strip(), re.search(r"^unfolding .*$", body, re.M))
+            if inner[mm.group(1)][2]:
+                notes.append(f"{mm.group(1)} is put in where it is used: its '{inner[mm.group(1)][2].group(0)}' goes there")
+        else:
+            kept.append(body)
+    rest = kept
+
+    def put(text):
+        for _ in range(3):
+            for name, (place, lem, _u) in inner.items():
+                use = re.compile(r"(?<![\w.'-])" + re.escape(name) + r" (?:c|§)(?:\.before)*(?![\w.'-])")
+                if name in types and use.search(text):
+                    flat = [re.sub(r"(?<![\w.'-])c\.", "§.", turn(re.sub(r"\n\s*", " ", x), "c", f, place, notes)) for x in (types[name], lem)]
+                    text = f" let {name} : {flat[0]} = {flat[1]} in" + use.sub(name, text)
+                    continue
+                body = "(" + turn(re.sub(r"\n\s*", " ", lem), "c", f, place, notes).replace("\n", " ") + ")"
+                body = re.sub(r"(?<![\w.'-])c\.", "§.", body)
+                text = re.sub(r"(?<![\w.'-])" + re.escape(name) + r" (?:c|§)(?:\.before)*(?![\w.'-])", lambda _m: body, text)
+        return text
+
     for body in rest:
         sig = re.search(r"^((?:(?:abbrev|unfoldable|pub)\s+)*)(" + ID + r"+)\s*:\s*tie\.(\S+)(.*)$", body, re.M)
         comment = ""
@@ -242,7 +275,7 @@ def convert(crate, path, f, folder):
             if len(params) != len(want):
                 notes.append(f"the loop {new} has {len(want)} variables, the invariant {len(params)}: {params} {want}")
             sub = dict(zip(params, want))
-            pat = re.compile(r"(?<![\w.'₀-])(" + "|".join(sorted((re.escape(p) for p in params if p != "_"), key=len, reverse=True)) + r")(?![\w'₀-])")
+            pat = re.compile(r"(?<![\w.'₀-])(" + "|".join(sorted((re.escape(p) for p in params if p != "_"), key=len, reverse=True)) + r")(?![\w'₀-])(?!\s*=)")
             expr = pat.sub(lambda mm: "l." + sub[mm.group(1)], expr)
             above = body[: sig.start()]
             invariants.append(f"{above}abbrev pub {kind}-{new} : goal.{kind}-{new}\n{kind}-{new} l ={' ' if not expr.startswith(chr(10)) else ''}{expr}")
@@ -264,9 +297,9 @@ def convert(crate, path, f, folder):
                 notes.append("no equation for " + word)
                 continue
             var = eq.group(2)
-            rhs = turn(below[eq.end():], var, f, at, notes)
+            rhs = turn(put(below[eq.end():]), var, f, at, notes).replace("§", var)
             mid = below[: eq.start()].strip("\n")
-            if re.fullmatch(r"\s*search rules\s*", rhs):
+            if re.fullmatch(r"\s*search rules\s*", rhs) or new.startswith("shape_of"):
                 continue
             answers.append((i, f"{above}pub {new} : goal.{new}\n" + (mid + "\n" if mid else "") + f"{new} {var} ={rhs}"))
             named[sig.group(2)] = new

@@ -1,43 +1,37 @@
-use Rattle.std.proofs.Common.{get_or, ◌∙◌, ⊎_elim, arith, rules}
-use Rattle.wave.proofs.Searches.{Passed, passed-by, passed_over, passed-le, passed-few, ends-a, ends-b, ends}
+use Rattle.std.proofs.Common.{◌≡◌, get_or, ◌∙◌, arith, rules}
+use Rattle.wave.proofs.Searches.{Passed, passed-by, passed_over, ends-a, ends-b, ends}
 use Rattle.wave.proofs.kinds.Wave.seek.Goals as goal
-
--- how the search stands after A, where it did not end there
-passed-a : (c : goal.Joined-self) → let x = c.args in Passed x.self.a x.down x.count (get_or x.t5 0 0) x.all 0 c.if-self.gap c.if-self.looked
-passed-a c =
-    ⊎_elim
-    (λ w. passed-by w.0.taken w.1.left (w.3 ∙ w.2.ensures) w.4)
-    (λ w. passed_over w.0.left w.1 w.2)
-    c.if-self.branch
-
--- and after B
-passed_b : (c : goal.Joined-self-2) → let x = c.args in Passed x.self.b x.down x.count (get_or x.t5 1 0) c.if-self.gap c.if-self.looked c.if-self-2.gap c.if-self-2.looked
-passed_b c =
-    ⊎_elim
-    (λ w. passed-by w.0.taken w.2.left (w.4 ∙ w.3.ensures) w.5)
-    (λ w. passed_over w.0.left w.1 w.2)
-    c.if-self-2.branch
+use Rattle.wave.proofs.kinds.Wave.seek.Goals.{then-self+else-ocr-count, else-self, then-self-2+else-ocr-count-2, else-self-2}
 
 pub returns-then-ocr-count : goal.returns-then-ocr-count
-returns-then-ocr-count c = let x = c.args in ends-a x.self x.t5 x.down x.count x.all c.if-self.true c.if-ocr-count.true
-
-pub overflow_add-looked-then-self-2 : goal.overflow_add-looked-then-self-2
-overflow_add-looked-then-self-2 c = record { fits = omega (arith, passed-few (passed-a c.before.before)) }
+returns-then-ocr-count c = let x = c.args in ends-a x.self x.ocr x.down x.count x.all c.if-self.true c.if-ocr-count.true
 
 pub returns-then-ocr-count-2 : goal.returns-then-ocr-count-2
-returns-then-ocr-count-2 c = let x = c.args in ends-b x.self x.t5 x.down x.count x.all (passed-a c.before.before.before) c.if-self-2.true c.if-ocr-count-2.true
-
-pub nearer-gap-requires-then-self-2 : goal.nearer-gap-requires-then-self-2
-nearer-gap-requires-then-self-2 c = omega (arith, passed-le (passed-a c.before.before.before), c.requires)
-
-pub overflow_add-looked-then-self-3 : goal.overflow_add-looked-then-self-3
-overflow_add-looked-then-self-3 c = record { fits = omega (arith, passed-few (passed-a c.before.before.before), passed-few (passed_b c.before.before)) }
-
-pub nearer-gap-requires-then-self-3 : goal.nearer-gap-requires-then-self-3
-nearer-gap-requires-then-self-3 c = omega (arith, passed-le (passed-a c.before.before.before), passed-le (passed_b c.before.before), c.requires)
+returns-then-ocr-count-2 c =
+    let x = c.args in
+    let a : Passed x.self.a x.down x.count (get_or x.ocr 0 0) x.all 0 c.if-self.gap c.if-self.looked = elim c.if-self.branch [
+      then-self+else-ocr-count w ↦ passed-by w.if-self.true w.if-ocr-count.false (w.gap-is ∙ w.nearer-gap.ensures) w.looked-is
+    | else-self w ↦ passed_over w.if-self.false w.gap-is w.looked-is ] in
+    ends-b x.self x.ocr x.down x.count x.all a c.if-self-2.true c.if-ocr-count-2.true
 
 pub returns-then-self-3 : goal.returns-then-self-3
-returns-then-self-3 c = let x = c.args in ends x.self x.t5 x.down x.count x.all (passed-a c.before.before.before.before) (passed_b c.before.before.before) (rw c.if-self-3.true c.nearer-gap-then-self-3.ensures) (rw c.if-self-3.true)
+returns-then-self-3 c =
+    let x = c.args in
+    let a : Passed x.self.a x.down x.count (get_or x.ocr 0 0) x.all 0 c.if-self.gap c.if-self.looked = elim c.if-self.branch [
+      then-self+else-ocr-count w ↦ passed-by w.if-self.true w.if-ocr-count.false (w.gap-is ∙ w.nearer-gap.ensures) w.looked-is
+    | else-self w ↦ passed_over w.if-self.false w.gap-is w.looked-is ] in
+    let b : Passed x.self.b x.down x.count (get_or x.ocr 1 0) c.if-self.gap c.if-self.looked c.if-self-2.gap c.if-self-2.looked = elim c.if-self-2.branch [
+      then-self-2+else-ocr-count-2 w ↦ passed-by w.if-self-2.true w.if-ocr-count-2.false (w.gap-is ∙ w.nearer-gap-then-self-2.ensures) w.looked-is
+    | else-self-2 w ↦ passed_over w.if-self-2.false w.gap-is w.looked-is ] in
+    ends x.self x.ocr x.down x.count x.all a b (rw c.if-self-3.true c.nearer-gap-then-self-3.ensures) (rw c.if-self-3.true)
 
 pub returns-else-self-3 : goal.returns-else-self-3
-returns-else-self-3 c = let x = c.args in ends x.self x.t5 x.down x.count x.all (passed-a c.before.before) (passed_b c.before) (rw c.if-self-3.false) (rw c.if-self-3.false (omega arith))
+returns-else-self-3 c =
+    let x = c.args in
+    let a : Passed x.self.a x.down x.count (get_or x.ocr 0 0) x.all 0 c.if-self.gap c.if-self.looked = elim c.if-self.branch [
+      then-self+else-ocr-count w ↦ passed-by w.if-self.true w.if-ocr-count.false (w.gap-is ∙ w.nearer-gap.ensures) w.looked-is
+    | else-self w ↦ passed_over w.if-self.false w.gap-is w.looked-is ] in
+    let b : Passed x.self.b x.down x.count (get_or x.ocr 1 0) c.if-self.gap c.if-self.looked c.if-self-2.gap c.if-self-2.looked = elim c.if-self-2.branch [
+      then-self-2+else-ocr-count-2 w ↦ passed-by w.if-self-2.true w.if-ocr-count-2.false (w.gap-is ∙ w.nearer-gap-then-self-2.ensures) w.looked-is
+    | else-self-2 w ↦ passed_over w.if-self-2.false w.gap-is w.looked-is ] in
+    ends x.self x.ocr x.down x.count x.all a b (rw c.if-self-3.false) (rw c.if-self-3.false (omega arith))
