@@ -1,0 +1,5 @@
+use Rattle.std.proofs.Common.{rules}
+use Rattle.scene.proofs.state.drives.Goals as goal
+
+pub returns : goal.returns
+returns c = simp c.acts_at_bottom.ensures
