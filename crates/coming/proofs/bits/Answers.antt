@@ -1,5 +1,4 @@
 use Rattle.coming.specs.Coming.{bits_in}
-use Rattle.std.proofs.Common.{rules}
 use Rattle.coming.proofs.bits.Goals as goal
 
 pub returns : goal.returns

@@ -1,6 +1,5 @@
-use Rattle.std.proofs.Common.{◌<◌, arith, rules}
+use Rattle.std.proofs.Common.{◌<◌, arith}
 use Rattle.coming.proofs.Ways.{space-moves, space-short}
-use Rattle.wave.specs.Distance.{moved}
 use Rattle.coming.proofs.coming.Goals as goal
 
 pub gap-n-requires : goal.gap-n-requires

@@ -1,5 +1,5 @@
 use Rattle.coming.specs.Coming.{over_in}
-use Rattle.std.proofs.Common.{sym, ◌∙◌, rules}
+use Rattle.std.proofs.Common.{sym, ◌∙◌}
 use Rattle.coming.proofs.over.Goals as goal
 
 pub returns-then-s : goal.returns-then-s

@@ -1,4 +1,3 @@
-use borrow.Author.Rules.{rules}
 use Rattle.watchdog.proofs.call.Goals as goal
 
 pub advance-requires : goal.advance-requires

@@ -1,7 +1,6 @@
-use borrow.Author.Rules.{rules}
 use Rattle.wdtcsr.proofs.Bounds.{gap-small}
 use Rattle.wdtcsr.proofs.Ticks.{loud-gap, quiet-to-gap}
-use Rattle.oscillator.proofs.Loop.{Going, begins, near-cycle, turned, halted, ended}
+use Rattle.oscillator.proofs.Loop.{begins, near-cycle, turned, halted, ended}
 use mathlib.Core.Path.{sym, ◌∙◌}
 use native.Mathlib.Omega.{arith}
 use Prim.Native.Nat.{◌-◌}

@@ -1,8 +1,4 @@
-use borrow.Author.Rules.{rules}
-use Rattle.wdtcsr.proofs.Bounds.{gap-small}
-use Rattle.wdtcsr.proofs.Ticks.{loud-gap, quiet-to-gap}
-use Rattle.oscillator.proofs.Loop.{Going, begins, near-cycle, turned, halted, ended}
-use native.Mathlib.Omega.{arith}
+use Rattle.oscillator.proofs.Loop.{Going}
 use Prim.Native.Nat.{◌-◌}
 use Rattle.oscillator.proofs.passing.run.Given as goal
 

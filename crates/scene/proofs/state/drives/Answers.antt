@@ -1,4 +1,3 @@
-use Rattle.std.proofs.Common.{rules}
 use Rattle.scene.proofs.state.drives.Goals as goal
 
 pub returns : goal.returns

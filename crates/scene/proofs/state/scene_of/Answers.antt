@@ -1,5 +1,4 @@
 use Rattle.scene.specs.Scene.{scene_of}
-use Rattle.std.proofs.Common.{rules}
 use Rattle.scene.proofs.state.scene_of.Goals as goal
 
 pub returns : goal.returns

@@ -2,7 +2,6 @@ use Rattle.strike.proofs.Climbs.{fit-placed, fit-moved, all_made}
 use mathlib.Core.Path.{refl, sym}
 use native.Mathlib.Nat.{le_refl}
 use native.Mathlib.Omega.{arith}
-use borrow.Author.Rules.{rules}
 use Rattle.strike.proofs.Rise.aside.Goals as goal
 
 pub climbs-after-requires : goal.climbs-after-requires

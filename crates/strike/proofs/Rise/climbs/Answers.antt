@@ -1,13 +1,9 @@
 use Rattle.strike.proofs.Climbs.{all-begin, all-struck, all-climbed, goes_on, turns-struck, turns-lone}
-use borrow.Author.Tests.{leb-true}
 use mathlib.Core.Logic.{inl}
 use mathlib.Core.Path.{refl, ◌∙◌}
 use native.Mathlib.Omega.{arith}
-use Prim.Native.Nat.{◌+◌, ◌-◌, ◌≤◌}
-use mathlib.Core.Path.{◌≡◌}
+use Prim.Native.Nat.{◌-◌, ◌≤◌}
 use lib.ListN.{length}
-use Rattle.strike.specs.Strike.{Fit}
-use Rattle.strike.proofs.Climbs.{AllRise, Turns}
 use Rattle.strike.proofs.Rise.climbs.Goals as goal
 
 pub loop-r-init : goal.loop-r-init

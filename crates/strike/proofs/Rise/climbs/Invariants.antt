@@ -1,9 +1,4 @@
-use Rattle.strike.proofs.Climbs.{all-begin, all-struck, all-climbed, goes_on, turns-struck, turns-lone}
-use borrow.Author.Tests.{leb-true}
-use mathlib.Core.Logic.{inl}
-use mathlib.Core.Path.{refl, ◌∙◌}
-use native.Mathlib.Omega.{arith}
-use Prim.Native.Nat.{◌+◌, ◌-◌, ◌≤◌}
+use Prim.Native.Nat.{◌+◌, ◌-◌}
 use mathlib.Core.Path.{◌≡◌}
 use lib.ListN.{length}
 use Rattle.strike.specs.Strike.{Fit}

@@ -4,11 +4,7 @@ use mathlib.Core.Path.{sym}
 use Rattle.strike.proofs.Climbs.{all-begin, all-wrote, all-stopped, all-reached, fit-placed}
 use mathlib.Core.Path.{refl, ◌∙◌}
 use native.Mathlib.Omega.{arith}
-use Prim.Native.Nat.{◌+◌, ◌-◌}
-use mathlib.Core.Path.{◌≡◌}
-use lib.ListN.{length}
-use Rattle.strike.specs.Strike.{Fit}
-use Rattle.strike.proofs.Climbs.{AllRise}
+use Prim.Native.Nat.{◌+◌}
 use Rattle.strike.proofs.Rise.closes.Goals as goal
 
 pub loop-r-init : goal.loop-r-init

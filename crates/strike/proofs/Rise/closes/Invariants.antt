@@ -1,9 +1,3 @@
-use Rattle.strike.proofs.Climbs.{fit-here, fit-moved}
-use borrow.Author.Tests.{leb-true}
-use mathlib.Core.Path.{sym}
-use Rattle.strike.proofs.Climbs.{all-begin, all-wrote, all-stopped, all-reached, fit-placed}
-use mathlib.Core.Path.{refl, ◌∙◌}
-use native.Mathlib.Omega.{arith}
 use Prim.Native.Nat.{◌+◌, ◌-◌}
 use mathlib.Core.Path.{◌≡◌}
 use lib.ListN.{length}

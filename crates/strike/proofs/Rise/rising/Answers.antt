@@ -1,6 +1,4 @@
 use native.Mathlib.Omega.{arith}
-use mathlib.Core.Path.{◌∙◌}
-use borrow.Author.Rules.{rules}
 use Rattle.strike.proofs.Climbs.{one-rose, all-rose}
 use Rattle.strike.proofs.Rise.rising.Goals as goal
 

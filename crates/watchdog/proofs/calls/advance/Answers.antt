@@ -2,7 +2,6 @@ use Rattle.watchdog.specs.Calls.{refusal_of}
 use Rattle.watchdog.proofs.Outcomes.{turned-away, stopped, came}
 use Rattle.watchdog.proofs.Keeps.{on-time}
 use mathlib.Core.Path.{sym, ◌∙◌}
-use borrow.Author.Rules.{rules}
 use Rattle.watchdog.proofs.calls.advance.Goals as goal
 
 pub returns-then-n-ne0 : goal.returns-then-n-ne0

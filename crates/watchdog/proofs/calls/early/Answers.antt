@@ -1,6 +1,5 @@
 use borrow.Author.Tests.{ne_eqb}
 use Rattle.watchdog.specs.Calls.{early}
-use borrow.Author.Rules.{rules}
 use Rattle.watchdog.proofs.calls.early.Goals as goal
 
 pub returns-then-n-ne0 : goal.returns-then-n-ne0

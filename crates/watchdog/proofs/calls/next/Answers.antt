@@ -1,7 +1,6 @@
 use Rattle.watchdog.specs.Calls.{refusal_of, performed}
 use Rattle.watchdog.proofs.Outcomes.{turned-away, plainly}
 use mathlib.Core.Path.{refl, sym, ◌∙◌}
-use borrow.Author.Rules.{rules}
 use Rattle.watchdog.proofs.calls.next.Goals as goal
 
 pub returns-then-n-ne0 : goal.returns-then-n-ne0

@@ -3,7 +3,6 @@ use Rattle.watchdog.proofs.Outcomes.{turned-away, plainly}
 use Rattle.watchdog.proofs.Keeps.{timely, synced-lasts}
 use mathlib.Core.Path.{refl, sym, ◌∙◌}
 use native.Mathlib.Omega.{arith}
-use borrow.Author.Rules.{rules}
 use Rattle.watchdog.proofs.calls.read.Goals as goal
 
 pub returns-then-n-ne0 : goal.returns-then-n-ne0

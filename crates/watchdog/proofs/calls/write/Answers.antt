@@ -3,7 +3,6 @@ use Rattle.watchdog.proofs.Outcomes.{early-refused, long-refused, write-accepted
 use Rattle.watchdog.proofs.Keeps.{timely, synced-lasts}
 use mathlib.Core.Path.{refl, sym, ◌∙◌}
 use native.Mathlib.Omega.{arith}
-use borrow.Author.Rules.{rules}
 use Rattle.watchdog.proofs.calls.write.Goals as goal
 
 pub too_long-long-requires : goal.too_long-long-requires

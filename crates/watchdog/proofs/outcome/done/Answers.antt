@@ -1,4 +1,3 @@
-use borrow.Author.Rules.{rules}
 use Rattle.watchdog.proofs.outcome.done.Goals as goal
 
 pub returns : goal.returns

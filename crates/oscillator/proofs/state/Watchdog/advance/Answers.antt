@@ -1,6 +1,5 @@
 use Rattle.oscillator.proofs.Advances.{run-ready, last-cycle, paused-advance, whole-advance}
 use native.Mathlib.Omega.{arith}
-use borrow.Author.Rules.{rules}
 use Rattle.oscillator.proofs.state.Watchdog.advance.Goals as goal
 
 pub ticks-first-requires : goal.ticks-first-requires

@@ -1,6 +1,5 @@
 use mathlib.Core.Path.{sym, ◌∙◌}
 use Rattle.oscillator.proofs.Syncs.{event-due, never-due}
-use borrow.Author.Rules.{rules}
 use Rattle.oscillator.proofs.state.Watchdog.is_due.Goals as goal
 
 pub returns-in-At : goal.returns-in-At

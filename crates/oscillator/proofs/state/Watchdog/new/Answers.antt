@@ -1,7 +1,6 @@
 use Rattle.oscillator.specs.State.{fresh, Valid}
 use native.Mathlib.Omega.{arith}
 use mathlib.Core.Path.{refl}
-use borrow.Author.Rules.{rules}
 use Rattle.oscillator.proofs.state.Watchdog.new.Goals as goal
 
 fresh-is-valid : Valid fresh

@@ -1,7 +1,6 @@
 use Rattle.oscillator.proofs.Syncs.{next-tick, next-cycle, next-is}
 use Rattle.oscillator.specs.Oscillator.{next_of}
 use native.Mathlib.Omega.{arith}
-use borrow.Author.Rules.{rules}
 use Rattle.oscillator.proofs.state.Watchdog.next.Goals as goal
 
 pub ticks-last-requires : goal.ticks-last-requires

@@ -1,6 +1,5 @@
 use Rattle.oscillator.proofs.Syncs.{first-last, still, syncs}
 use native.Mathlib.Omega.{arith}
-use borrow.Author.Rules.{rules}
 use Rattle.oscillator.proofs.state.Watchdog.sync.Goals as goal
 
 pub ticks-first-requires : goal.ticks-first-requires

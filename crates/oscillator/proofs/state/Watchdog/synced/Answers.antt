@@ -1,4 +1,3 @@
-use borrow.Author.Rules.{rules}
 use Rattle.oscillator.proofs.state.Watchdog.synced.Goals as goal
 
 pub returns : goal.returns

@@ -1,5 +1,4 @@
 use Rattle.scene.specs.Scene.{limit_at}
-use Rattle.std.proofs.Common.{rules}
 use Rattle.scene.proofs.state.Scene.limit.Goals as goal
 
 pub returns-then-self : goal.returns-then-self

@@ -1,6 +1,5 @@
 use Rattle.scene.specs.Scene.{lines_of}
 use Rattle.tick.specs.Tick.{line}
-use Rattle.std.proofs.Common.{rules}
 use Rattle.scene.proofs.state.Scene.lines.Goals as goal
 
 pub returns-then-active-eq0 : goal.returns-then-active-eq0

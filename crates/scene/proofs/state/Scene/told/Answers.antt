@@ -1,6 +1,6 @@
 use Rattle.scene.proofs.Told.{told_none, told-put}
 use Rattle.tick.proofs.Ticks.{also-most}
-use Rattle.std.proofs.Common.{arith, rules, eq-eqb, ne_eqb}
+use Rattle.std.proofs.Common.{arith, eq-eqb, ne_eqb}
 use Rattle.scene.proofs.state.Scene.told.Goals as goal
 
 pub returns-then-up-eq0 : goal.returns-then-up-eq0

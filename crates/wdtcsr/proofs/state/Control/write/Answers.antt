@@ -1,5 +1,4 @@
 use Rattle.wdtcsr.specs.Wdtcsr.{control_to}
-use borrow.Author.Rules.{rules}
 use Rattle.wdtcsr.proofs.state.Control.write.Goals as goal
 
 pub returns-then-taken : goal.returns-then-taken

@@ -1,6 +1,5 @@
 use Rattle.wdtcsr.specs.Timeouts.{gap_of}
 use native.Mathlib.Omega.{arith}
-use borrow.Author.Rules.{rules}
 use Rattle.wdtcsr.proofs.state.Moving.gap.Goals as goal
 
 pub returns-then-self-period : goal.returns-then-self-period

@@ -1,4 +1,3 @@
-use borrow.Author.Rules.{rules}
 use Rattle.wdtcsr.proofs.state.Moving.is_quiet.Goals as goal
 
 pub returns : goal.returns

@@ -1,5 +1,4 @@
 use Rattle.wdtcsr.proofs.Bounds.{period-at}
-use borrow.Author.Rules.{rules}
 use Rattle.wdtcsr.proofs.state.Moving.period.Goals as goal
 
 pub returns : goal.returns

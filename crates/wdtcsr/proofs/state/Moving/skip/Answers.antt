@@ -3,7 +3,6 @@ use Rattle.wdtcsr.proofs.Bounds.{gap-small}
 use Rattle.wdtcsr.proofs.Ticks.{quiet-gap}
 use mathlib.Core.Path.{sym, ◌∙◌}
 use native.Mathlib.Omega.{arith}
-use borrow.Author.Rules.{rules}
 use Rattle.wdtcsr.proofs.state.Moving.skip.Goals as goal
 
 pub overflow_cast-m : goal.overflow_cast-m

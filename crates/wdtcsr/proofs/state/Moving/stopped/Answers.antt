@@ -1,5 +1,4 @@
 use Rattle.wdtcsr.specs.Wdtcsr.{stopped_at}
-use borrow.Author.Rules.{rules}
 use Rattle.wdtcsr.proofs.state.Moving.stopped.Goals as goal
 
 pub returns-then-running : goal.returns-then-running

@@ -1,5 +1,4 @@
 use Rattle.wdtcsr.specs.Timeouts.{timed_out}
-use borrow.Author.Rules.{rules}
 use Rattle.wdtcsr.proofs.state.Moving.timed_out.Goals as goal
 
 pub returns-then-resets : goal.returns-then-resets

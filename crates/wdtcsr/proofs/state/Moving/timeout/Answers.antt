@@ -1,5 +1,4 @@
 use Rattle.wdtcsr.specs.Timeouts.{timeout}
-use borrow.Author.Rules.{rules}
 use Rattle.wdtcsr.proofs.state.Moving.timeout.Goals as goal
 
 pub returns-then-resets : goal.returns-then-resets

@@ -1,5 +1,4 @@
 use Rattle.wdtcsr.specs.Wdtcsr.{value_of}
-use borrow.Author.Rules.{rules}
 use Rattle.wdtcsr.proofs.state.Moving.wdtcsr.Goals as goal
 
 pub returns : goal.returns

@@ -1,5 +1,4 @@
 use Rattle.wdtcsr.specs.Wdtcsr.{written}
-use borrow.Author.Rules.{rules}
 use Rattle.wdtcsr.proofs.state.Moving.write.Goals as goal
 
 pub returns : goal.returns

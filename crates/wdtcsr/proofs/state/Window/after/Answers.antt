@@ -1,5 +1,4 @@
 use Rattle.wdtcsr.specs.Wdtcsr.{window_to}
-use borrow.Author.Rules.{rules}
 use Rattle.wdtcsr.proofs.state.Window.after.Goals as goal
 
 pub returns-then-bit : goal.returns-then-bit

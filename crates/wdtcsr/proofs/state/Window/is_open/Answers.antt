@@ -1,6 +1,5 @@
 use Rattle.wdtcsr.specs.Wdtcsr.{is_open}
 use mathlib.Core.Path.{refl}
-use borrow.Author.Rules.{rules}
 use Rattle.wdtcsr.proofs.state.Window.is_open.Goals as goal
 
 pub returns : goal.returns

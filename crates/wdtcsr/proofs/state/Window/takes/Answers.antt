@@ -1,5 +1,4 @@
 use Rattle.wdtcsr.specs.Wdtcsr.{takes}
-use borrow.Author.Rules.{rules}
 use Rattle.wdtcsr.proofs.state.Window.takes.Goals as goal
 
 pub returns : goal.returns

@@ -1,5 +1,4 @@
 use Rattle.wdtcsr.specs.Wdtcsr.{too_long}
-use borrow.Author.Rules.{rules}
 use Rattle.wdtcsr.proofs.state.Window.too_long.Goals as goal
 
 pub returns : goal.returns
