@@ -3,7 +3,7 @@ use Prim.Native.Nat.{ℕ, suc, ◌+◌, ◌-◌, ◌≤◌, ◌<◌, ◌^◌}
 use native.Mathlib.Omega.{arith}
 use native.Mathlib.Nat.{le_refl}
 use mathlib.Core.Path.{◌≡◌, refl, sym, ap, ◌∙◌}
-use mathlib.Core.Bool.{Bool, true, false, not, false≢true}
+use mathlib.Core.Bool.{Bool, true, false}
 use mathlib.Core.List.{List, ◌++◌}
 use lib.ListN.{length, take, drop, length-append}
 use lib.Seq.{sets, sets-eq, length-sets, length-take-le, take_at, drop_at, drop-drop}
@@ -142,12 +142,3 @@ module _ {m₀ : Moving} {from end : ℕ} {before : List ℕ} {m : Moving} {at t
         room = g.bytes;
         upto = le_refl end;
       }
-
--- the loop's test, and its other side
-pub loud : (b : Bool) {x : Bool} → b ≡ x → not b ≡ true → x ≡ false
-loud true e h = absurd (false≢true h)
-loud false e h = sym e
-
-pub calm : (b : Bool) {x : Bool} → b ≡ x → not b ≡ false → x ≡ true
-calm true e h = sym e
-calm false e h = absurd (false≢true (sym h))

@@ -9,7 +9,7 @@ use mathlib.Core.List.{List, ◌++◌, append-nil}
 use lib.ListN.{length}
 use Rattle.records.specs.Records.{records_of}
 use Rattle.time.specs.Units.{cycle_at}
-use Rattle.wdtcsr.specs.Timeouts.{tick, linear, gap_of, is_quiet}
+use Rattle.wdtcsr.specs.Timeouts.{tick, gap_of, is_quiet}
 use Rattle.wdtcsr.proofs.Ticks.{cond-case, loud-gap, quiet-less, quiet-to-gap, tick-quiet, linear-none}
 use Rattle.oscillator.specs.Oscillator.{oscillator, Run, one, ticks, quiet, skips, timeouts}
 

@@ -5,7 +5,7 @@ use native.Mathlib.Nat.{div-le_self, le_refl}
 use mathlib.Core.Path.{◌≡◌, refl, sym, ap, ◌∙◌}
 use mathlib.Core.Bool.{Bool, true, false, cond, ◌&&◌, false≢true}
 use mathlib.Core.List.{List}
-use mathlib.Core.Logic.{◌⊎◌, inl, inr, ⊎_elim}
+use mathlib.Core.Logic.{◌⊎◌, inr, ⊎_elim}
 use lib.IntN.{ℤ}
 use lib.ListN.{length, take, drop}
 use lib.Seq.{sets, sets-eq, length-take-le, take_at, drop-drop}
@@ -17,7 +17,7 @@ use Rattle.time.specs.Units.{ticks_at, cycle_at}
 use Rattle.time.proofs.Clocks.{ticks-mono, tick-before}
 use Rattle.tick.specs.declared.setting.Setting.{Setting}
 use Rattle.tick.specs.declared.tick.Ticked.{Ticked}
-use Rattle.passage.specs.Passage.{ticks, standing, Ready, Made}
+use Rattle.passage.specs.Passage.{Ready, Made}
 use Rattle.passage.proofs.Loops.{Going, begins, turned, wrote, halted}
 use Rattle.scene.specs.declared.state.Scene.{Scene}
 use Rattle.strike.specs.declared.Rise.{Rise}

@@ -1,8 +1,8 @@
 -- The tick of a rising count, from its scene.
-use Prim.Native.Nat.{ℕ, ◌+◌, ◌-◌, ◌*◌, ◌/◌, ◌<◌, ◌≤◌}
+use Prim.Native.Nat.{ℕ, ◌+◌, ◌-◌, ◌*◌, ◌/◌, ◌<◌}
 use native.Mathlib.Omega.{arith}
 use native.Mathlib.Nat.{add-mul, mul-div_cancel}
-use mathlib.Core.Path.{◌≡◌, refl, sym, ap, ◌∙◌}
+use mathlib.Core.Path.{◌≡◌, refl}
 use mathlib.Core.Bool.{Bool, true, false, cond, ◌&&◌}
 use mathlib.Core.List.{◌++◌}
 use lib.Bits.{bit_or}
@@ -12,7 +12,6 @@ use Rattle.time.specs.declared.units.Prescaler.{Prescaler}
 use Rattle.time.specs.Units.{ticks_at, cycle_at}
 use Rattle.wave.specs.Kinds.{C, F, P}
 use Rattle.wave.specs.Count.{falls, at_top, at_zero, loads, next_direction, counted}
-use Rattle.wave.specs.Distance.{moved}
 use Rattle.tick.specs.declared.setting.Moving.{Moving}
 use Rattle.tick.specs.declared.setting.Setting.{Setting}
 use Rattle.tick.specs.Outputs.{outs_of}

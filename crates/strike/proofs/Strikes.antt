@@ -1,7 +1,7 @@
 -- An event's tick of a rising count, as the code reckons it from the scene.
-use Prim.Native.Nat.{ℕ, ◌+◌, ◌-◌, ◌*◌, ◌%◌, ◌<◌, ◌≤◌, ◌^◌, min}
+use Prim.Native.Nat.{ℕ, ◌+◌, ◌-◌, ◌*◌, ◌%◌, ◌<◌, ◌≤◌, ◌^◌}
 use native.Mathlib.Omega.{arith}
-use native.Mathlib.Nat.{pow-le-pow_right, mul-le-mul_right, mul-le-mul_left}
+use native.Mathlib.Nat.{pow-le-pow_right, mul-le-mul_left}
 use mathlib.Core.Path.{◌≡◌, refl, sym, ap, ◌∙◌}
 use mathlib.Core.Bool.{Bool, true, false, cond, ◌&&◌, ◌||◌, true≢false}
 use mathlib.Core.List.{List, [], ◌++◌}
@@ -11,13 +11,13 @@ use lib.Dec.{eqb, leb}
 use lib.IntN.{ℤ}
 use lib.ListN.{length, get_or}
 use lib.Seq.{sets, length-sets}
-use borrow.Author.Tests.{leb-true, leb-false, eqb-false}
+use borrow.Author.Tests.{eqb-false}
 use Rattle.records.specs.Records.{records_of}
 use Rattle.time.specs.declared.units.Prescaler.{Prescaler}
-use Rattle.time.specs.Units.{ticks_at, cycle_at}
+use Rattle.time.specs.Units.{ticks_at}
 use Rattle.wave.specs.Kinds.{F}
 use Rattle.wave.specs.Count.{top_of, counted}
-use Rattle.wave.specs.Distance.{moved, space, ahead, gap}
+use Rattle.wave.specs.Distance.{moved, space, gap}
 use Rattle.tick.specs.declared.outputs.Outputs.{Outputs}
 use Rattle.tick.specs.declared.setting.Drives.{Drives}
 use Rattle.tick.specs.declared.setting.Moving.{Moving}
@@ -31,8 +31,8 @@ use Rattle.tick.proofs.Bounds.{top-max, gap_up}
 use Rattle.tick.proofs.Still.{step_keeps, tick-keeps}
 use Rattle.tick.proofs.Writes.{Put, put-none, put_then}
 use Rattle.scene.specs.declared.state.Scene.{Scene}
-use Rattle.scene.specs.Scene.{Rising, scene_of, climb_at, after_at, limit_at, raised_at, told_of, driven_of, nearer_of}
-use Rattle.scene.specs.Laws.{top_now, up_now}
+use Rattle.scene.specs.Scene.{Rising, scene_of, climb_at, after_at, limit_at, raised_at, told_of, driven_of}
+use Rattle.scene.specs.Laws.{up_now}
 use Rattle.strike.specs.declared.Rise.{Rise}
 use Rattle.strike.specs.Strike.{tick_in, run_in, near_in, Known, Fit, Struck, EveryRun}
 use Rattle.scene.proofs.Laws.{climb-is, limit_is, raised_is, still-is}

@@ -18,7 +18,7 @@ use Rattle.wdtcsr.specs.Wdtcsr.{bit_at, wanted_p, takes, too_long, control_to, w
 use Rattle.wdtcsr.proofs.Ticks.{cond-case}
 use Rattle.wdtcsr.proofs.Bounds.{period-at, timed-out-sound}
 use Rattle.oscillator.specs.declared.state.Watchdog.{Watchdog}
-use Rattle.oscillator.specs.State.{fresh, moving_to, accepted_at, Valid}
+use Rattle.oscillator.specs.State.{moving_to, accepted_at, Valid}
 use Rattle.oscillator.specs.Oscillator.{oscillator, Run, one, ticks, due, start, sync_of, passed, run_of, synced, is_due}
 use Rattle.oscillator.proofs.Runs.{one-all}
 use Rattle.oscillator.proofs.Syncs.{synced-is}

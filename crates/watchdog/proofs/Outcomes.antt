@@ -1,18 +1,14 @@
 -- Calls turned away and calls accepted, over plain values.
 use Prim.Native.Nat.{ℕ}
-use mathlib.Core.Path.{◌≡◌, refl, sym, ap, ◌∙◌}
-use mathlib.Core.Bool.{Bool, true, false, cond, ◌&&◌}
+use mathlib.Core.Path.{◌≡◌, sym, ap, ◌∙◌}
+use mathlib.Core.Bool.{Bool, true, false}
 use mathlib.Core.List.{List}
-use lib.Dec.{leb}
 use borrow.Author.Tests.{ne_eqb}
-use Rattle.time.specs.declared.units.Cycle.{Cycle}
-use Rattle.wdtcsr.specs.State.{running}
 use Rattle.wdtcsr.specs.Wdtcsr.{too_long}
 use Rattle.oscillator.specs.declared.passing.Advanced.{Advanced}
-use Rattle.oscillator.specs.declared.next.Next.TheVariants.{At, Never}
 use Rattle.oscillator.specs.declared.state.Watchdog.{Watchdog}
 use Rattle.oscillator.specs.State.{accepted_at, Valid}
-use Rattle.oscillator.specs.Oscillator.{ticks, next_at, next_of, is_due, Advances}
+use Rattle.oscillator.specs.Oscillator.{ticks, Advances}
 use Rattle.watchdog.specs.declared.calls.Call.{Call}
 use Rattle.watchdog.specs.declared.calls.Call.TheVariants as call
 use Rattle.watchdog.specs.declared.outcome.Answer.{Answer}

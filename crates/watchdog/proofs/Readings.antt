@@ -1,5 +1,5 @@
 -- The readings hold: computed by time-outs, which are the ticks.
-use mathlib.Core.Path.{◌≡◌, refl, sym, ◌∙◌}
+use mathlib.Core.Path.{◌≡◌, refl, sym, ap, ◌∙◌}
 use mathlib.Core.List.{List, [], ◌∷◌}
 use lib.ListN.{replicate}
 use Rattle.records.specs.Records.{bytes_of, record_of, records_of}
@@ -10,13 +10,14 @@ use Rattle.oscillator.specs.declared.state.Watchdog.{Watchdog}
 use Rattle.oscillator.specs.State.{fresh}
 use Rattle.oscillator.specs.Oscillator.{one, ticks, quiet, skips, timeouts, due, start, sync_of, passed, run_of, synced, next_at, next_of, is_due}
 use Rattle.watchdog.specs.Calls.{early, refusal_of, moved, performed, answered}
-use Rattle.watchdog.specs.Readings.{Step, played, readings, replayed, Readings}
+use Rattle.watchdog.specs.Readings.{Step, told_of, shown, played, readings, replayed, Readings}
 use Rattle.watchdog.proofs.Alike.{told-alike}
 
 played-alike : (w : Watchdog) (ss : List Step) → played timeouts w ss ≡ played ticks w ss
 unfolding played
 played-alike w [] = refl
-played-alike w (s ∷ ss) = rw (told-alike w (record { call = s.call; cycle = s.cycle; area = replicate s.room 0 })) (rw (played-alike _ ss))
+played-alike w (s ∷ ss) = rw (told-alike w (record { call = s.call; cycle = s.cycle; area = replicate s.room 0 }))
+    (ap (λ (xs : List Step). shown s (told_of ticks w s) ∷ xs) (played-alike (told_of ticks w s).watchdog ss))
 
 replayed-alike : (rs : List (List Step)) → replayed timeouts rs ≡ replayed ticks rs
 unfolding replayed
