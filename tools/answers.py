@@ -18,7 +18,7 @@ ID = r"[^\s(){}\[\],;.:λ→×∷≡∙⊎\"]"
 
 
 def same(a, b):
-    return a.replace("_", "-") == b.replace("_", "-")
+    return a.replace("_", "-").lower() == b.replace("_", "-").lower()
 
 
 def parameters(home, rel):

@@ -10,12 +10,11 @@ returns-then-stops c = stopped c.args.t c.args.item c.args.area.now c.advance-a.
 pub slice_bounds-write-count : goal.slice_bounds-write-count
 slice_bounds-write-count c = inside (answered-within _ _ _ _ _) c.advance-a.ensures
 
+pub slice_bounds-write-start : goal.slice_bounds-write-start
+slice_bounds-write-start c = inside (answered-within _ _ _ _ _) c.advance-a.ensures
+
 pub overflow_add-result : goal.overflow_add-result
-overflow_add-result c = record { fits = omega (arith, inside_both c.advance-a.result.written c.advance-a.new.1.1.0 (inside (answered-within _ _ _ _ _) c.advance-a.ensures) (answered-within _ _ _ _ _) c.write-w.ensures c.write-w.auto.area, c.advance-a.auto.area, c.well_formed.1.1.0) }
+overflow_add-result c = record { fits = omega (arith, inside_both c.advance-a.result.written c.advance-a.new.area (inside (answered-within _ _ _ _ _) c.advance-a.ensures) (answered-within _ _ _ _ _) c.write-w.ensures c.write-w.auto.area, c.advance-a.auto.area, c.well_formed.1.1.0) }
 
 pub returns : goal.returns
 returns c = both c.args.t c.args.item c.args.area.now c.advance-a.ensures c.stops.ensures c.if-stops.false c.write-w.ensures
-
--- TODO no need slice-bounds-write-start
--- part-write-start : tie.Need-slice-bounds-write-start
--- part-write-start c = inside (answered-within _ _ _ _ _) c.before.before.before.before.before.advance.ensures

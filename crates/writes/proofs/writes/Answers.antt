@@ -41,7 +41,3 @@ loop-done-preserved c = goes_on _ _ _ _ _ _ _ c.loop-done.invariant (omega arith
 
 pub returns : goal.returns
 returns c = all_done _ _ _ _ _ _ _ c.if-list-ne0.false c.loop-done.invariant (omega arith)
-
--- TODO no need slice-bounds-work-start
--- part-work-start : tie.Need-slice-bounds-work-start invariant-loop decreases-loop
--- part-work-start c = c.before.before.loop.invariant.room

@@ -16,4 +16,4 @@ unfolding codes left_by
 returns c =
     let a = c.args in
     let e = c.next-next.ensures in
-    rw (after-accepted a.o.answer (left_by a.o a.area.now) c.in_default.in_default-own.keys2, ← e) (then c.said-at.ensures (then (then c.cycle-at.ensures c.flags-at.ensures) c.records.ensures))
+    rw (after-accepted a.o.answer (left_by a.o a.area.now) c.in_default.not-Refused, ← e) (then c.said-at.ensures (then (then c.cycle-at.ensures c.flags-at.ensures) c.records.ensures))

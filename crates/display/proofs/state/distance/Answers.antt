@@ -10,4 +10,4 @@ use Rattle.display.proofs.state.distance.Goals as goal
 
 pub returns : goal.returns
 unfolding codes distance_line
-returns c = subst (λ (d : Distance). Puts c.args.page.now c.args.from c.number.new.0 c.number.result (distance_line d)) c.distance-d.ensures (then (then c.number-at.ensures c.register-at.ensures) c.number.ensures)
+returns c = subst (λ (d : Distance). Puts c.args.page.now c.args.from c.number.new.page c.number.result (distance_line d)) c.distance-d.ensures (then (then c.number-at.ensures c.register-at.ensures) c.number.ensures)

@@ -26,7 +26,7 @@ pub returns-then-running : goal.returns-then-running
 returns-then-running c =
     let t : Timer = c.args.t in
     let r : running_of t ≡ true = sym c.running.ensures ∙ c.if-running.true in
-    let q : c.Shift-of.result ≡ shift_at (divisor_of t) (running_of t) = rw r (c.Shift-of.ensures ∙ ap (λ (p : Prescaler). shift_at p.divisor _) c.prescaler-p.ensures) in
+    let q : c.shift_of.result ≡ shift_at (divisor_of t) (running_of t) = rw r (c.shift_of.ensures ∙ ap (λ (p : Prescaler). shift_at p.divisor _) c.prescaler-p.ensures) in
     record { next = found-next (record { clock = c.prescaler-p.ensures; tick = c.ticks-last.ensures; ahead = given-sees (record { valid = c.requires.0; scene = c.requires.1; top = c.requires.2; down = c.requires.3 }) c.coming-e.ensures }) c.requires.0 r c.cycle-at.ensures; flags = found-flags (record { clock = c.prescaler-p.ensures; tick = c.ticks-last.ensures; ahead = given-sees (record { valid = c.requires.0; scene = c.requires.1; top = c.requires.2; down = c.requires.3 }) c.coming-e.ensures }) c.requires.0 r; shift = shift_is t q; idle = shift-idle t q; small = rw q (shift_small (divisor_of t) (running_of t)) }
 
 pub returns-else-running : goal.returns-else-running
