@@ -1,0 +1,6 @@
+use Rattle.replies.proofs.Reported.{reports}
+use borrow.Author.Rules.{rules}
+use Rattle.replies.proofs.watchdogs.written.Goals as goal
+
+pub returns : goal.returns
+returns c = λ area. reports (c.write.ensures area) c.reported.ensures
