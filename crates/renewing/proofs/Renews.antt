@@ -96,7 +96,7 @@ module _ (t : Timer) (cycle : ℕ) where
   -- its scene is the one before without mode and outputs
   scene-is : cleared_of (scene_of (setting_of t)) t.config ≡ scene_of (setting_of renewed)
   unfolding cleared_of scene_of setting_at wave_of channel_of enabled_at reset_at driven
-  scene-is = rw (mode-is, kind-clear t.config.wide, source_clear t.config.wide, toggles-clear t.config.wide) refl
+  scene-is = simp (mode-is, kind-clear t.config.wide, source_clear t.config.wide, toggles-clear t.config.wide)
 
 -- ---- what is kept, and the answer
 module _ (h : Held) (cycle : ℕ) (k : Kept h) where

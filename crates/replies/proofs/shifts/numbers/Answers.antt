@@ -9,5 +9,5 @@ returns-in-Refused c = rw c.in-Refused.is
 
 pub returns-in-By : goal.returns-in-By
 returns-in-By c =
-    let h : SFits w32 c.in-By.is.0.0 = search rules in
+    let h : SFits w32 c.in-By.ticks = search rules in
     rw (to_z-of_z h, c.in-By.is)
