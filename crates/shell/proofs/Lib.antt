@@ -1,10 +1,7 @@
 pub mod Branches
 pub mod Taken
-pub mod Cells
 pub mod Histories
 pub mod Lefts
-pub mod Places
-pub mod Raws
 pub mod Runs
 pub mod Said
 pub mod Shape
