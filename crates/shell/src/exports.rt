@@ -251,9 +251,12 @@ fn climb(t: &mut Held, cycle: u64, area: &mut [u8]) -> Reply
     let a = rising(*t, cycle, area);
     t.timer.counter.count = a.count;
     t.timer.counter.odometer = a.odometer;
-    t.timer.ocr = a.ocr;
-    t.timer.oc = a.oc;
-    t.timer.drives = a.drives;
+    let ocr = a.ocr;
+    t.timer.ocr = ocr;
+    let oc = a.oc;
+    t.timer.oc = oc;
+    let drives = a.drives;
+    t.timer.drives = drives;
     t.timer.flags.tifr = a.tifr;
     t.timer.clock.sync.0 = a.sync;
     t.timer.clock.latest.0 = a.latest;
@@ -270,9 +273,12 @@ fn onward(t: &mut Held, cycle: u64, area: &mut [u8]) -> Reply
 {
     let a = going(*t, cycle, area);
     t.timer.counter = a.moving.counter;
-    t.timer.ocr = a.moving.ocr;
-    t.timer.oc = a.moving.oc;
-    t.timer.drives = a.moving.drives;
+    let ocr = a.moving.ocr;
+    t.timer.ocr = ocr;
+    let oc = a.moving.oc;
+    t.timer.oc = oc;
+    let drives = a.moving.drives;
+    t.timer.drives = drives;
     t.timer.flags.tifr = a.moving.tifr;
     t.timer.clock = a.clock;
     t.next = a.next;
@@ -333,8 +339,9 @@ fn buffer(t: &mut Held, place: u8, value: u8, cycle: u64) -> Reply
     let a = buffering(*t, place, value, cycle);
     t.timer.counter = a.counter;
     t.timer.clock = a.clock;
-    t.timer.buffer = a.buffer;
-    t.scene.buffer = a.buffer;
+    let buffer = a.buffer;
+    t.timer.buffer = buffer;
+    t.scene.buffer = buffer;
     a.reply
 }
 
