@@ -18,7 +18,7 @@ ID = r"[^\s(){}\[\],;.:λ→×∷≡∙⊎\"]"
 
 
 def same(a, b):
-    return a.replace("_", "-") == b.replace("_", "-")
+    return a.replace("_", "-").lower() == b.replace("_", "-").lower()
 
 
 def parameters(home, rel):
@@ -46,6 +46,14 @@ class Function:
         self.loops = names["loops"]
         self.changed = names["changed"]
         self.params = []
+        self.callees = names["params"]
+
+    def lent(self, step, k, old):
+        """The name of the K-th parameter of the function that a step calls."""
+        for p in self.list:
+            if p[2][1] == step and p[3] in self.callees and k < len(self.callees[p[3]]):
+                return self.callees[p[3]][k]
+        return old.lstrip(".") + ".0" if old else "0"
 
     def parameter(self, n):
         return self.params[n - 1] if n <= len(self.params) else f"t{n}"
@@ -133,6 +141,7 @@ def turn(text, var, f, at, notes, to=None):
     text = re.sub(r"\.is\.keys\d+", ".is", text)
     text = re.sub(r"\.is\.given(\.1)?(?![\w'-])", ".is", text)
     text = re.sub(r"\.(in-" + ID + r"+)\." + ID + r"+\.given(\.1)?(?![\w'-])", r".\1.is", text)
+    text = re.sub(r"\.(" + ID + r"+)\.auto((?:\.1)*)\.0(?![\w'-])", lambda m: f".{m.group(1)}.auto.{f.lent(m.group(1), m.group(2).count('.1'), m.group(2))}", text)
     return re.sub(r"(?<=\.)t(\d+)(?![\w'-])", lambda m: f.parameter(int(m.group(1))), text)
 
 
@@ -299,7 +308,7 @@ def convert(crate, path, f, folder):
             var = eq.group(2)
             rhs = turn(put(below[eq.end():]), var, f, at, notes).replace("§", var)
             mid = below[: eq.start()].strip("\n")
-            if re.fullmatch(r"\s*search rules\s*", rhs) or new.startswith("shape_of"):
+            if (re.fullmatch(r"\s*search rules\s*", rhs) and "unfolding" not in mid) or new.startswith("shape_of"):
                 continue
             answers.append((i, f"{above}pub {new} : goal.{new}\n" + (mid + "\n" if mid else "") + f"{new} {var} ={rhs}"))
             named[sig.group(2)] = new
@@ -327,7 +336,8 @@ def convert(crate, path, f, folder):
         if not mm or mm.group(1) != "c":
             notes.append("an argument that is not read: " + a)
             continue
-        answers.append((j, f"pub {new} : goal.{new}\n{new} c = " + turn(mm.group(3), "c", f, at, notes)))
+        opened = "".join(l + "\n" for l in re.findall(r"^unfolding .*$", spec, re.M))
+        answers.append((j, f"pub {new} : goal.{new}\n{opened}{new} c =" + turn(put(" " + mm.group(3)), "c", f, at, notes).replace("§", "c")))
     answers.sort(key=lambda p: p[0])
     out = {}
     if invariants:

@@ -10,7 +10,6 @@ use borrow.Author.Tests.{not-true}
 use Rattle.door.specs.declared.Rule.{Rule}
 use Rattle.door.specs.declared.Rule.TheVariants.{One, Two}
 use Rattle.door.specs.declared.Door.{Door}
-use Rattle.door.specs.declared.Set.TheVariants.{Made}
 use Rattle.door.specs.Door.{accepted, rearms, due_under, idle, begins, edge_taken, set_to, late, edged, close_of, Valid}
 use Rattle.door.specs.Claims.{after, numbers, Makes, Kept, begins_hold, same_hold, DueBy, Capped, NotAfter, NoLaterThan, NoLater, played, begun, replayed, Readings}
 use Rattle.door.proofs.Doors.{left, right, cond-case, one-too, made, made-valid, edged-valid}

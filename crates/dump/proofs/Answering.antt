@@ -15,7 +15,7 @@ use Rattle.verdict.proofs.Claims.{whole-refusal, whole-pins}
 use Rattle.dump.specs.declared.Answer.TheVariants as answer
 use Rattle.dump.specs.declared.writer.Writer.{Writer}
 use Rattle.figures.specs.Figures.{Wrote}
-use Rattle.dump.specs.Dump.{header, dump_of}
+use Rattle.dump.specs.Dump.{dump_of}
 use Rattle.dump.specs.Pieces.{header_of, begun, written_by, after}
 use Rattle.dump.specs.Answers.{Outcome, written, Determined, Answers, refused_with, too_short, wrote, header_outcome, lines_outcome, PieceAnswers, dump_outcome}
 use Rattle.figures.proofs.Writing.{wrote-front}

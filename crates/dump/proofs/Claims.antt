@@ -11,7 +11,7 @@ use lib.ListN.{length, get_or}
 use lib.Seq.{append_snoc}
 use borrow.Author.Tests.{lt-ltb, le-ltb, eqb-true, ne_eqb}
 use Rattle.records.specs.Records.{record_at, kind_in, cycle_in, body_in, number_of}
-use Rattle.pieces.specs.Pieces.{start, wholes, wholes_in, part_after, Bytes, joined}
+use Rattle.pieces.specs.Pieces.{wholes, part_after, Bytes, joined}
 use Rattle.pieces.proofs.Cuts.{part-append, wholes-append}
 use Rattle.pieces.proofs.Claims.{of-a-log}
 use Rattle.verdict.specs.Changes.{Change, state_of, change_in, changes_in, changes_of, changes, has}
@@ -21,7 +21,7 @@ use Rattle.verdict.specs.Claims.{checked_all}
 use Rattle.verdict.proofs.Claims.{changes-append, changes-in, by-pieces}
 use Rattle.dump.specs.declared.writer.Writer.{Writer}
 use Rattle.figures.specs.Figures.{codes, text, digits, decimal}
-use Rattle.dump.specs.Dump.{var_line, var_lines, no_cycle, time_line, value_line, change_lines, last_cycle, header, dump_of}
+use Rattle.dump.specs.Dump.{var_line, var_lines, no_cycle, time_line, value_line, change_lines, header, dump_of}
 use Rattle.dump.specs.Pieces.{vars_of, header_of, begun, written_by, after}
 use Rattle.dump.specs.Claims.{written_all, passes, ByPieces, lines_in, number_in, read_lines, read_back, ReadsBack, Example}
 use Rattle.dump.proofs.Lines.{lines-append, last-append}

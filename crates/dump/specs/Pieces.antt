@@ -1,5 +1,5 @@
 -- The dump by pieces (02, 2.10): its header out of the check's pins, and the lines of a piece.
-use Rattle.std.specs.Prelude.{ℕ, zero, suc, Bool, false, cond, List, [], ◌∷◌, ◌++◌, get_or}
+use Rattle.std.specs.Prelude.{ℕ, zero, suc, Bool, false, cond, List, [], ◌++◌, get_or}
 use Rattle.pieces.specs.Pieces.{start, part_after, wholes}
 use Rattle.verdict.specs.Changes.{changes}
 use Rattle.dump.specs.declared.writer.Writer.{Writer}

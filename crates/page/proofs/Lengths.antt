@@ -7,10 +7,9 @@ use mathlib.Core.List.{List, ◌++◌}
 use mathlib.Core.Path.{◌≡◌, refl}
 use lib.Dec.{eqb}
 use lib.ListN.{length, length-append}
-use Rattle.io.specs.Digits.{last_digits}
 use Rattle.figures.specs.Figures.{codes, number}
 use Rattle.figures.proofs.Writing.{number_short}
-use Rattle.page.specs.Page.{pair, pattern, flag, reason_of, unreadable_of}
+use Rattle.page.specs.Page.{last_digits, pair, pattern, flag, reason_of, unreadable_of}
 
 pub codes-length : (s : String) (n : ℕ) → length (codes s n) ≡ n
 unfolding codes

@@ -9,7 +9,6 @@ use lib.Seq.{take-suc, take_all}
 use native.Mathlib.Decide.{dec_le}
 use native.Mathlib.Nat.{pow-le-pow_right}
 use native.Mathlib.Numerals.{add-one}
-use Rattle.io.specs.Digits.{last_digits, IsDigitCount}
 use Rattle.figures.specs.Figures.{decimal}
 use Rattle.figures.proofs.Writing.{decimal-length}
 use Rattle.page.specs.Page.{Sheet, sheet, size, put, puts, Puts, pattern}
@@ -42,23 +41,6 @@ pub put_all : {a b : List ℕ} {p q : ℕ} (l : List ℕ) (i : ℕ) → length l
 put_all {a} {b} {p} {q} l i h v = rw (take_all i l h) at v
 
 -- ---- numbers
-
--- a number of 64 bits needs sixteen hexadecimal digits at most
-fewest-sixteen : (n r : ℕ) → n < 2 ^ 64 → IsDigitCount 16 16 n r → r ≡ 16
-fewest-sixteen n r h f = go (dec_le r 16)
-  where
-    go : Dec (r ≤ 16) → r ≡ 16
-    go (yes q) = omega arith
-    go (no q) =
-        let m : 16 ≤ r - 1 = omega arith in
-        let p : 16 ^ 16 ≤ 16 ^ (r - 1) = pow-le-pow_right (omega arith) m in
-        let l = f.2 (omega arith) in
-        absurd (omega arith)
-
--- and those are its pattern
-pub pattern-of : (n r : ℕ) (l : List ℕ) → n < 2 ^ 64 → IsDigitCount 16 16 n r → l ≡ last_digits 16 r n → l ≡ pattern n
-unfolding pattern
-pattern-of n r l h f e = e ∙ ap (λ (k : ℕ). last_digits 16 k n) (fewest-sixteen n r h f)
 
 -- a number of 64 bits has twenty digits at most
 pub number-length : (n : ℕ) → n < 2 ^ 64 → length (decimal n) ≤ 20

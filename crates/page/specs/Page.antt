@@ -1,7 +1,6 @@
 -- Answers as bytes (docs/SCRIPT.md), put one after the other on a page. A page that is full takes no more.
-use Rattle.std.specs.Prelude.{ℕ, ◌+◌, ◌≡◌, Bool, cond, eqb, ltb, set}
+use Rattle.std.specs.Prelude.{ℕ, zero, suc, ◌+◌, ◌/◌, ◌%◌, ◌≡◌, Bool, cond, eqb, ltb, set}
 use mathlib.Core.List.{List, [], ◌∷◌, ◌++◌, foldl}
-use Rattle.io.specs.Digits.{last_digits}
 use Rattle.figures.specs.Figures.{text, number}
 
 -- ---- pages
@@ -31,6 +30,15 @@ pub record Puts (old : List ℕ) (from : ℕ) (new : List ℕ) (at : ℕ) (bytes
   pub after : sheet new at ≡ puts (sheet old from) bytes
 
 -- ---- numbers
+
+-- the ASCII code of a digit below 16: `0` to `9`, then `a` to `f`
+abbrev pub hex_digit_ascii : ℕ → ℕ
+hex_digit_ascii d = cond (ltb d 10) (48 + d) (87 + d)
+
+-- the last k digits of a number in a base, the most significant first
+abbrev pub last_digits : ℕ → ℕ → ℕ → List ℕ
+last_digits b zero n = []
+last_digits b (suc k) n = last_digits b k (n / b) ++ (hex_digit_ascii (n % b) ∷ [])
 
 -- "two lower-case hexadecimal digits"
 unfoldable pub pair : ℕ → List ℕ

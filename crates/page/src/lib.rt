@@ -3,9 +3,8 @@
 #![tactic(auto)]
 
 ghost use Rattle.std.specs.Prelude.{◌<◌, ◌≡◌, ◌∷◌, [], ◌++◌};
-ghost use Rattle.io.specs.Digits.{hex_digit_ascii as Digits·glyph};
 ghost use Rattle.figures.specs.Figures.{number};
-ghost use Rattle.page.specs.Page.{Puts, pair, pattern, flag, reason_of, unreadable_of};
+ghost use Rattle.page.specs.Page.{Puts, hex_digit_ascii, last_digits, pair, pattern, flag, reason_of, unreadable_of};
 
 use words::{
     EXTRA_WORD, MALFORMED, MISSING_WORD, NOT_OPENED, TOO_LARGE, UNKNOWN_COMMAND, UNKNOWN_KEY,
@@ -51,22 +50,31 @@ pub fn number(page: &mut Page, from: usize, label: &[u8], n: u64) -> usize
     text(page, at, &digits[..k])
 }
 
+// The hexadecimal digit of a number below sixteen.
+fn glyph(n: u8) -> u8
+    requires { n < 16 }
+    ensures { result ≡ hex_digit_ascii n }
+{
+    if n < 10 { 48 + n } else { 87 + n }
+}
+
+// Puts the last k hexadecimal digits of a number; yields the place after them.
+fn last(page: &mut Page, from: usize, k: u8, n: u64) -> usize
+    ensures { Puts page.old from page.new result (last_digits 16 k n) }
+{
+    if k == 0 {
+        return from;
+    }
+    let at = last(page, from, k - 1, n / 16);
+    byte(page, at, glyph((n % 16) as u8))
+}
+
 // Puts a label and a number's sixteen hexadecimal digits; yields the place after them.
 pub fn sixteen(page: &mut Page, from: usize, label: &[u8], n: u64) -> usize
     ensures { Puts page.old from page.new result (label.now ++ pattern n) }
 {
-    let mut digits = [0u8; 16];
-    let k = io::hex(n, 16, &mut digits);
     let at = text(page, from, label);
-    text(page, at, &digits[..k])
-}
-
-// The hexadecimal digit of a number below sixteen.
-fn glyph(n: u8) -> u8
-    requires { n < 16 }
-    ensures { result ≡ Digits·glyph n }
-{
-    if n < 10 { 48 + n } else { 87 + n }
+    last(page, at, 16, n)
 }
 
 // Puts a byte's two hexadecimal digits; yields the place after them.

@@ -1,18 +1,16 @@
 -- The claims of specs/Claims.antt.
 use Prim.Native.Nat.{ℕ, zero, suc, ◌+◌, ◌*◌, ◌/◌, ◌%◌, ◌≤◌, ◌<◌}
 use native.Mathlib.Omega.{arith}
-use native.Mathlib.Decide.{dec_le}
 use mathlib.Core.Path.{◌≡◌, refl, sym, ap, ◌∙◌}
-use mathlib.Core.Bool.{Bool, true, false}
 use mathlib.Core.List.{List, [], ◌∷◌, ◌++◌, append-nil}
-use lib.Dec.{eqb, ltb, leb}
-use lib.ListN.{length, get_or, take, drop, length-drop, take-append-drop}
-use lib.Seq.{take-add, take-append-le, length-take-le, take_all, drop-length, drop-drop, take-take, get_or-take, get_or-drop}
-use borrow.Author.Tests.{lt-ltb, lt-leb, eq-eqb, ne_eqb}
+use lib.Dec.{eqb}
+use lib.ListN.{length, take, drop, length-drop, take-append-drop}
+use lib.Seq.{take-add, length-take-le, take_all, drop-length, get_or-drop}
+use borrow.Author.Tests.{lt-ltb, lt-leb}
 use Rattle.records.specs.Records.{record_at, number_of}
 use Rattle.pieces.specs.declared.Part.{Part}
 use Rattle.pieces.specs.declared.Whole.{Whole}
-use Rattle.pieces.specs.Pieces.{start, between, shifted, part_after, wholes, whole_in, wholes_in, Bytes}
+use Rattle.pieces.specs.Pieces.{start, shifted, part_after, wholes, whole_in, wholes_in, Bytes}
 use Rattle.pieces.specs.Claims.{CutAnywhere, OfALog}
 use Rattle.pieces.proofs.Cuts.{part-append, wholes-append, ten-parts, ten-records}
 

@@ -3,18 +3,18 @@ use Prim.Native.Nat.{ℕ, zero, suc, ◌+◌, ◌*◌, ◌/◌, ◌%◌, ◌≤�
 use native.Mathlib.Omega.{arith}
 use native.Mathlib.Decide.{dec_le}
 use native.Mathlib.Numerals.{towards_suc, add-one}
-use mathlib.Core.Path.{◌≡◌, refl, sym, ap, ◌∙◌}
-use mathlib.Core.Bool.{Bool, true, false, cond}
+use mathlib.Core.Path.{◌≡◌, refl, ap, ◌∙◌}
+use mathlib.Core.Bool.{Bool, true, false}
 use mathlib.Core.List.{List, [], ◌∷◌, ◌++◌}
-use lib.Dec.{eqb, ltb, leb}
+use lib.Dec.{leb}
 use lib.ListN.{length, get_or, take, drop}
 use lib.Seq.{drop-cons}
 use borrow.Author.Tests.{lt-ltb, le-ltb, lt-leb, le-leb}
 use Rattle.records.specs.Records.{number_of}
-use Rattle.records.proofs.Bytes.{bytes_from, bytes-from, two_bytes, eight-bytes}
+use Rattle.records.proofs.Bytes.{bytes_from, two_bytes, eight-bytes}
 use Rattle.pieces.specs.declared.Part.{Part}
 use Rattle.pieces.specs.declared.Whole.{Whole}
-use Rattle.pieces.specs.Pieces.{start, between, inside, shifted, part_after, ahead, wholes, whole_in, Bytes}
+use Rattle.pieces.specs.Pieces.{inside, shifted, part_after, ahead, wholes, Bytes}
 
 -- ---- a cut anywhere
 

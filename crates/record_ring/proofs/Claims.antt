@@ -12,7 +12,7 @@ use lib.Seq.{sets, length-sets, get_or-append_seam, get_or-drop, drop-drop, drop
 use borrow.Author.Tests.{eqb-true, eqb-false, leb-true}
 use Rattle.record_ring.specs.declared.Ring.{Ring}
 use Rattle.records.specs.Records.{record_at}
-use Rattle.record_ring.specs.Log.{empty, added, released, place_of, Valid}
+use Rattle.record_ring.specs.Log.{added, released, place_of, Valid}
 use Rattle.record_ring.specs.Claims.{Call, add, release, Soak, fresh, answered, after, run, numbers, Account, nothing, number_of, booked, noted, account, numbers_of, soaked, accounted, Answers, Keeps, Placed, Accounts, History, none, called, CodeIsRun, Reading}
 use Rattle.record_ring.proofs.Places.{at_place, elsewhere}
 
@@ -111,12 +111,12 @@ step {size} {t} {k} w (release count) = go (eqb size 60000) refl (leb count t.ri
 runs : {size : ℕ} {t : Soak} {k : Account} → Tied size t k → (calls : List Call) → Tied size (run t calls) (account size k calls)
 unfolding run account
 runs w [] = w
-runs w (call ∷ calls) = runs (step w call).1 calls
+runs {size} {t} {k} w (call ∷ calls) = runs {t = after t call} {k = noted size k call} (step w call).1 calls
 
 alike : {size : ℕ} {t : Soak} {k : Account} → Tied size t k → (calls : List Call) → numbers t calls ≡ numbers_of size k calls
 unfolding numbers numbers_of
 alike w [] = refl
-alike w (call ∷ calls) = let s = step w call in ap₂ (λ (n : ℕ) (ns : List ℕ). n ∷ ns) s.0 (alike s.1 calls)
+alike {size} {t} {k} w (call ∷ calls) = let s = step w call in ap₂ (λ (n : ℕ) (ns : List ℕ). n ∷ ns) s.0 (alike {t = after t call} {k = noted size k call} s.1 calls)
 
 histories : {t u : Soak} {calls : List Call} {ns : List ℕ} → History t calls ns u → (ns ≡ numbers t calls) × (u ≡ run t calls)
 unfolding run numbers

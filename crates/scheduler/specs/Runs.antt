@@ -1,7 +1,6 @@
 -- What holds of a scheduler after any list of calls from `new`.
 use Rattle.std.specs.Prelude.{ℕ, ◌-◌, ◌≤◌, ◌<◌, ◌^◌, ◌≡◌, List, [], ◌∷◌, length, get_or}
 use Rattle.events.specs.declared.EventKey.{EventKey}
-use Rattle.events.specs.declared.Event.{Event}
 use Rattle.scheduler.specs.declared.Scheduler.{Scheduler}
 use Rattle.events.specs.Events.{blank, Met}
 use Rattle.scheduler.specs.Scheduler.{holding, held, Valid, scheduled, removed, popped}

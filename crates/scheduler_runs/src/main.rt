@@ -3,11 +3,11 @@
 
 #![tactic(auto)]
 
-ghost use Rattle.std.specs.Prelude.{◌<◌, ◌^◌};
+ghost use Rattle.std.specs.Prelude.{◌<◌, ◌^◌, IfOk};
 ghost use Rattle.scheduler.specs.Scheduler.{Valid};
 
-use libc::STDOUT_FILENO;
 use scheduler::{Answer, Due, EventKey, Scheduled, Scheduler};
+use std::io;
 
 fn draw(seed: u64) -> u64
     requires { seed < 2 ^ 31 }
@@ -36,147 +36,160 @@ fn cycle_of(step: u64, seed: u64) -> u64
     }
 }
 
-fn put(text: &[u8]) {
-    io::write_all(STDOUT_FILENO, text);
+fn put(rt: &impl Print, text: &[u8]) -> io::Result<()> {
+    rt.write_all(text)
 }
 
-fn put_number(n: u64) {
-    put(b" ");
-    io::print_decimal(STDOUT_FILENO, n);
+fn put_number(rt: &impl Print, n: u64) -> io::Result<()> {
+    print!(rt; " {n}")
 }
 
-fn put_key(key: EventKey) {
-    put_number(key.owner as u64);
-    put_number(key.tag as u64);
+fn put_key(rt: &impl Print, key: EventKey) -> io::Result<()> {
+    put_number(rt, key.owner as u64)?;
+    put_number(rt, key.tag as u64)
 }
 
-fn at(s: Scheduler, key: EventKey, cycle: u64) -> Scheduler
+fn at(rt: &impl Print, s: Scheduler, key: EventKey, cycle: u64) -> io::Result<Scheduler>
     requires { Valid s }
-    ensures { Valid result }
+    ensures { IfOk result Valid }
 {
-    put(b"at");
-    put_key(key);
-    put_number(cycle);
+    put(rt, b"at")?;
+    put_key(rt, key)?;
+    put_number(rt, cycle)?;
     let set = s.at(key, cycle);
     let answer = set.answer;
     match answer {
-        Answer::Accepted => put_number(0),
-        Answer::Refused => put_number(11),
+        Answer::Accepted => put_number(rt, 0)?,
+        Answer::Refused => put_number(rt, 11)?,
     }
-    set.scheduler
+    Ok(set.scheduler)
 }
 
-fn cancel(s: Scheduler, key: EventKey) -> Scheduler
+fn cancel(rt: &impl Print, s: Scheduler, key: EventKey) -> io::Result<Scheduler>
     requires { Valid s }
-    ensures { Valid result }
+    ensures { IfOk result Valid }
 {
-    put(b"cancel");
-    put_key(key);
-    s.cancel(key)
+    put(rt, b"cancel")?;
+    put_key(rt, key)?;
+    Ok(s.cancel(key))
 }
 
-fn is_scheduled(s: Scheduler, key: EventKey) -> Scheduler
+fn is_scheduled(rt: &impl Print, s: Scheduler, key: EventKey) -> io::Result<Scheduler>
     requires { Valid s }
-    ensures { Valid result }
+    ensures { IfOk result Valid }
 {
-    put(b"is");
-    put_key(key);
+    put(rt, b"is")?;
+    put_key(rt, key)?;
     let scheduled = s.is_scheduled(key);
     match scheduled {
-        Scheduled::At(cycle) => put_number(cycle),
-        Scheduled::Never => put(b" never"),
+        Scheduled::At(cycle) => put_number(rt, cycle)?,
+        Scheduled::Never => put(rt, b" never")?,
     }
-    s
+    Ok(s)
 }
 
-fn pop_due(s: Scheduler, now: u64) -> Scheduler
+fn pop_due(rt: &impl Print, s: Scheduler, now: u64) -> io::Result<Scheduler>
     requires { Valid s }
-    ensures { Valid result }
+    ensures { IfOk result Valid }
 {
-    put(b"pop");
-    put_number(now);
+    put(rt, b"pop")?;
+    put_number(rt, now)?;
     let pop = s.pop_due(now);
     let due = pop.due;
     match due {
         Due::Popped(event) => {
-            put_key(event.key);
-            put_number(event.cycle);
+            put_key(rt, event.key)?;
+            put_number(rt, event.cycle)?;
         }
-        Due::Nothing => put(b" nothing"),
+        Due::Nothing => put(rt, b" nothing")?,
     }
-    pop.scheduler
+    Ok(pop.scheduler)
 }
 
-fn clear(s: Scheduler) -> Scheduler
+fn clear(rt: &impl Print, s: Scheduler) -> io::Result<Scheduler>
     requires { Valid s }
-    ensures { Valid result }
+    ensures { IfOk result Valid }
 {
-    put(b"clear");
-    s.clear()
+    put(rt, b"clear")?;
+    Ok(s.clear())
 }
 
 // A call while the scheduler fills up.
-fn filling(s: Scheduler, kind: u64, key: EventKey, cycle: u64) -> Scheduler
+fn filling(
+    rt: &impl Print,
+    s: Scheduler,
+    kind: u64,
+    key: EventKey,
+    cycle: u64,
+) -> io::Result<Scheduler>
     requires { Valid s }
-    ensures { Valid result }
+    ensures { IfOk result Valid }
 {
     match kind {
-        0 => cancel(s, key),
-        1 => is_scheduled(s, key),
-        2 => pop_due(s, cycle),
-        _ => at(s, key, cycle),
+        0 => cancel(rt, s, key),
+        1 => is_scheduled(rt, s, key),
+        2 => pop_due(rt, s, cycle),
+        _ => at(rt, s, key, cycle),
     }
 }
 
 // A call while it is emptied.
-fn emptying(s: Scheduler, kind: u64, key: EventKey, cycle: u64, step: u64) -> Scheduler
+fn emptying(
+    rt: &impl Print,
+    s: Scheduler,
+    kind: u64,
+    key: EventKey,
+    cycle: u64,
+    step: u64,
+) -> io::Result<Scheduler>
     requires { Valid s }
-    ensures { Valid result }
+    ensures { IfOk result Valid }
 {
     match kind {
-        0..=2 => at(s, key, cycle),
-        3..=4 => cancel(s, key),
-        5 => is_scheduled(s, key),
-        6..=14 => pop_due(s, cycle),
+        0..=2 => at(rt, s, key, cycle),
+        3..=4 => cancel(rt, s, key),
+        5 => is_scheduled(rt, s, key),
+        6..=14 => pop_due(rt, s, cycle),
         _ => if step % 5 == 0 {
-            clear(s)
+            clear(rt, s)
         } else {
-            pop_due(s, cycle)
+            pop_due(rt, s, cycle)
         },
     }
 }
 
 // The call of a step.
-fn call(s: Scheduler, step: u64, seed: u64) -> Scheduler
+fn call(rt: &impl Print, s: Scheduler, step: u64, seed: u64) -> io::Result<Scheduler>
     requires { Valid s × (step < 840) }
-    ensures { Valid result }
+    ensures { IfOk result Valid }
 {
     let kind = seed / 65536 / 80 % 16;
     let key = key_of(seed);
     let cycle = cycle_of(step, seed);
     if step % 420 < 300 {
-        filling(s, kind, key, cycle)
+        filling(rt, s, kind, key, cycle)
     } else {
-        emptying(s, kind, key, cycle, step)
+        emptying(rt, s, kind, key, cycle, step)
     }
 }
 
-fn put_next(s: Scheduler)
+fn put_next(rt: &impl Print, s: Scheduler) -> io::Result<()>
     requires { Valid s }
 {
-    put(b" next");
-    put_number(s.next());
-    put(b"\n");
+    put(rt, b" next")?;
+    put_number(rt, s.next())?;
+    put(rt, b"\n")
 }
 
-fn main() {
+fn main(rt: HostRuntime) -> io::Result<()> {
     let mut s = Scheduler::new();
     let mut seed = 1;
     let mut step = 0;
     while step < 840 {
         seed = draw(seed);
-        s = call(s, step, seed);
-        put_next(s);
+        s = call(&rt, s, step, seed)?;
+        put_next(&rt, s)?;
         step += 1;
     }
+    Ok(())
 }

@@ -1,5 +1,5 @@
 -- One chunk more, of either pass.
-use Prim.Native.Nat.{ℕ, zero, suc, ◌+◌, ◌-◌, ◌≤◌, ◌<◌}
+use Prim.Native.Nat.{ℕ, zero, suc, ◌+◌, ◌-◌, ◌≤◌, ◌<◌, min}
 use native.Mathlib.Omega.{arith}
 use native.Mathlib.Nat.{min-le_right}
 use mathlib.Core.Path.{◌≡◌, refl, sym, ap, ◌∙◌}
@@ -10,13 +10,12 @@ use lib.IntN.{ℤ, pos, negsuc}
 use lib.ListN.{length, take, length-append}
 use lib.Seq.{length-take-le}
 use lib.Signed.{lt_z}
-use borrow.Author.Tests.{leb-true, eqb-false}
-use Rattle.io.specs.Counts.{clamp_len}
+use borrow.Author.Tests.{leb-true, lt-leb, eqb-false}
 use Rattle.pieces.specs.Pieces.{Bytes, joined}
 use Rattle.pieces.proofs.Claims.{bytes_take}
 use Rattle.verdict.specs.Refusal.{longest}
 use Rattle.soak.specs.declared.input.Input.{Input}
-use Rattle.soak.specs.Input.{Opens, after_read, Reads, more}
+use Rattle.soak.specs.Input.{Opens, after_read, clamp_len, Reads, more}
 use Rattle.soak.specs.Passes.{Chunks}
 
 -- ---- chunks
@@ -93,3 +92,10 @@ chunks-more i r area chunks m l h c =
 -- a chunk was read
 pub reads-chunk : (i r : Input) (got : ℤ) (n : ℕ) (area : List ℕ) → r ≡ after_read i got n → n ≡ clamp_len got (length area) → Bytes area → Reads i area r
 reads-chunk i r got n area e k b = record { got = got; input = e ∙ ap (after_read i got) k; bytes = b }
+
+-- so many bytes were read
+pub reads_count : (i r : Input) (n : ℕ) (area : List ℕ) → r ≡ after_read i (pos 0) n → n ≤ length area → Bytes area → Reads i area r
+reads_count i r n area e k b =
+    let m : n ≡ min n (length area) = omega arith in
+    let f : lt_z (pos n) (pos 0) ≡ false = lt-leb (suc n) 0 (omega arith) in
+    record { got = pos n; input = e ∙ rw (f, ← m) refl; bytes = b }

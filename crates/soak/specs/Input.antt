@@ -1,7 +1,6 @@
 -- A file that is read chunk by chunk (02, 2.10): what each answer of the file leaves of it.
-use Rattle.std.specs.Prelude.{ℕ, ◌+◌, Bool, false, not, ◌&&◌, List, ◌≡◌, eqb, leb, ℤ, pos, length}
+use Rattle.std.specs.Prelude.{ℕ, ◌+◌, Bool, false, not, ◌&&◌, List, ◌≡◌, eqb, leb, ℤ, pos, negsuc, min, length}
 use Rattle.std.specs.Int.Signed.{lt_z}
-use Rattle.io.specs.Counts.{clamp_len}
 use Rattle.pieces.specs.Pieces.{Bytes}
 use Rattle.verdict.specs.Refusal.{longest}
 use Rattle.soak.specs.declared.input.Input.{Input}
@@ -24,6 +23,11 @@ after_read i got count = record {
   count = count;
   bytes = i.bytes + count;
 }
+
+-- how many bytes an answer of `read` gives: never more than the area has, none where it fails
+abbrev pub clamp_len : ℤ → ℕ → ℕ
+clamp_len (pos k) most = min k most
+clamp_len (negsuc k) most = 0
 
 -- for some answer of `read`
 pub record Reads (i : Input) (area : List ℕ) (r : Input) : Type 0 where

@@ -4,7 +4,9 @@ ghost use Rattle.std.specs.Prelude.{◌≡◌};
 ghost use Rattle.soak.specs.Input.{Opens};
 ghost use Rattle.soak.specs.Passes.{first_number, Checks};
 
-use crate::input::Input;
+use crate::input::{Input, Opened};
+use std::fs::File;
+use std::rt::Files;
 use verdict::Check;
 
 // The file after the pass, and the check of what was read.
@@ -15,7 +17,7 @@ pub struct Checked {
 }
 
 // Checks an open file chunk by chunk.
-fn check_chunks(from: Input) -> Checked
+fn check_chunks(from: Input, file: &mut Option<File>) -> Checked
     requires { Opens from }
     ensures { Checks result.input result.check }
 {
@@ -23,7 +25,7 @@ fn check_chunks(from: Input) -> Checked
     let mut input = from;
     let mut check = Check::new();
     while input.more() {
-        input = input.read(&mut area);
+        input = input.read(file, &mut area);
         let n = input.count();
         check = check.piece(&area[..n]);
     }
@@ -31,12 +33,13 @@ fn check_chunks(from: Input) -> Checked
 }
 
 // Opens a file and checks it.
-pub fn check_file(path: &[u8]) -> Checked
+pub fn check_file<R: Files<File = File>>(rt: &R, path: &str) -> Checked
     ensures { Checks result.input result.check }
 {
-    let checked = check_chunks(Input::open(path));
+    let Opened { input, mut file } = Input::open(rt, path);
+    let checked = check_chunks(input, &mut file);
     let input = checked.input;
-    input.close();
+    input.close(file);
     checked
 }
 

@@ -3,10 +3,15 @@
 ghost use Rattle.std.specs.Prelude.{◌+◌, ◌<◌, ◌^◌, ◌≡◌, length};
 ghost use Rattle.soak.specs.Input.{opened_as, Opens, more, after_read, Reads};
 
+use std::fs::File;
+use std::io::Read;
+use std::os::fd::AsRawFd;
+use std::rt::Files;
+
 // The longest log that is taken, in bytes.
 const LONGEST: u64 = 0x4000_0000;
 
-// A file descriptor, whether the file could not be opened or read, whether it is at its end, the bytes of the last chunk, and all that were read.
+// A file descriptor, negative where there is none, whether the file could not be opened or read, whether it is at its end, the bytes of the last chunk, and all that were read.
 #[derive(Clone, Copy)]
 pub struct Input {
     fd: i32,
@@ -16,8 +21,15 @@ pub struct Input {
     bytes: u64,
 }
 
+// An input and its file, none where that could not be opened.
+#[derive(Drop)]
+pub struct Opened {
+    pub input: Input,
+    pub file: Option<File>,
+}
+
 impl Input {
-    // The input of a descriptor that `open` answered, negative where that failed.
+    // The input of a descriptor that was opened, negative where that failed.
     fn of(fd: i32) -> Input
         ensures { result ≡ opened_as fd }
     {
@@ -31,13 +43,25 @@ impl Input {
     }
 
     // Opens a file.
-    pub fn open(path: &[u8]) -> Input
-        ensures { Opens result }
+    pub fn open<R: Files<File = File>>(rt: &R, path: &str) -> Opened
+        ensures { Opens result.input }
     {
-        Input::of(os::open_read(path))
+        match File::open(rt, path) {
+            Ok(file) => {
+                let input = Input::of(file.as_raw_fd());
+                Opened {
+                    input,
+                    file: Some(file),
+                }
+            }
+            Err(_) => {
+                let input = Input::of(-1);
+                Opened { input, file: None }
+            }
+        }
     }
 
-    // The input after `read` answered, negative where that failed.
+    // The input after a read, whose answer is negative where that failed.
     fn after(self, got: isize, count: usize) -> Input
         requires { self.bytes + count < 2 ^ 64 }
         ensures { result ≡ after_read self got count }
@@ -53,13 +77,17 @@ impl Input {
     }
 
     // Reads the next chunk into an area.
-    pub fn read(self, area: &mut [u8]) -> Input
+    pub fn read(self, file: &mut Option<File>, area: &mut [u8]) -> Input
         requires { self.bytes + length area.old < 2 ^ 64 }
         ensures { Reads self area.new result }
     {
-        let got = libc::read(self.fd, area);
-        let count = io::count(got, area);
-        self.after(got, count)
+        match file {
+            Some(file) => match file.read(area) {
+                Ok(count) => self.after(0, count),
+                Err(_) => self.after(-1, 0),
+            },
+            None => self.after(-1, 0),
+        }
     }
 
     // Whether there may be more to read: not after a failure, at the file's end, or past the longest log.
@@ -91,9 +119,7 @@ impl Input {
     }
 
     // Closes the file.
-    pub fn close(self) {
-        if 0 <= self.fd {
-            libc::close(self.fd);
-        }
+    pub fn close(self, file: Option<File>) {
+        drop(file);
     }
 }

@@ -14,10 +14,12 @@ ghost use Rattle.soak.specs.Files.{number_line, Dumps};
 
 use crate::first_pass::check_file;
 use crate::input::Input;
-use crate::output::Output;
+use crate::output::{Output, STDERR_FILENO, STDOUT_FILENO};
 use crate::second_pass::write_file;
 use figures::put;
-use libc::{STDERR_FILENO, STDOUT_FILENO};
+use std::fs::File;
+use std::io::Write;
+use std::rt::Files;
 
 // The number of the refusal, 0 where there is none, the file as each pass left it, and what standard output and standard error got.
 // A log that the first pass refuses has no second: it is the first again.
@@ -43,22 +45,27 @@ fn number_line(number: u8, line: &mut [u8]) -> usize
 }
 
 // Writes the number of a refusal and a line feed, nothing where there is none.
-fn write_number(number: u8, err: Output) -> Output
+fn write_number<W: Write>(number: u8, err: Output, to: &mut W) -> Output
     requires { err.bytes ≡ 0 }
     ensures { result ≡ wrote err (number_line number) }
 {
     let mut line = [0u8; 4];
     let n = number_line(number, &mut line);
-    err.write(&line[..n])
+    err.write(to, &line[..n])
 }
 
-// Writes the dump of a file to standard output, or the number of the refusal to standard error.
-pub fn dump_file(path: &[u8]) -> Outcome
+// Writes the dump of a file to `output`, or the number of the refusal to `error`: standard output and standard error, or what stands for them.
+pub fn dump_file<R: Files<File = File>, O: Write, E: Write>(
+    rt: &R,
+    path: &str,
+    output: &mut O,
+    error: &mut E,
+) -> Outcome
     ensures { Dumps result }
 {
     let out = Output::new(STDOUT_FILENO);
     let err = Output::new(STDERR_FILENO);
-    let checked = check_file(path);
+    let checked = check_file(rt, path);
     let first = checked.input;
     let check = checked.check;
     let refused = checked.number();
@@ -68,18 +75,17 @@ pub fn dump_file(path: &[u8]) -> Outcome
             first,
             second: first,
             out,
-            err: write_number(refused, err),
+            err: write_number(refused, err, error),
         };
     }
-    let written = write_file(path, check, out);
+    let written = write_file(rt, path, check, out, output);
     let second = written.input;
-    let output = written.output;
     let number = written.number();
     Outcome {
         number,
         first,
         second,
-        out: output,
-        err: write_number(number, err),
+        out: written.output,
+        err: write_number(number, err, error),
     }
 }

@@ -1,7 +1,14 @@
-// A file descriptor that is written to.
+// An output that is written to.
 
 ghost use Rattle.std.specs.Prelude.{◌+◌, ◌<◌, ◌^◌, ◌≡◌, length};
 ghost use Rattle.soak.specs.Output.{output_of, wrote};
+
+use std::io::Write;
+
+// The descriptors of standard output and standard error.
+pub const STDOUT_FILENO: i32 = 1;
+
+pub const STDERR_FILENO: i32 = 2;
 
 // A file descriptor, and how many bytes were handed to it.
 #[derive(Clone, Copy)]
@@ -19,11 +26,11 @@ impl Output {
     }
 
     // Writes bytes; a write that fails is passed over.
-    pub fn write(self, bytes: &[u8]) -> Output
+    pub fn write<W: Write>(self, to: &mut W, bytes: &[u8]) -> Output
         requires { self.bytes + length bytes.now < 2 ^ 64 }
         ensures { result ≡ wrote self bytes.now }
     {
-        io::write_all(self.fd, bytes);
+        let _ = to.write_all(bytes);
         Output {
             fd: self.fd,
             bytes: self.bytes + bytes.len() as u64,

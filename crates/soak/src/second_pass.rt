@@ -8,10 +8,13 @@ ghost use Rattle.soak.specs.Input.{Opens};
 ghost use Rattle.soak.specs.Output.{wrote};
 ghost use Rattle.soak.specs.Passes.{second_number, bytes_in, WritesLines, WritesChunks, Writes};
 
-use crate::input::Input;
+use crate::input::{Input, Opened};
 use crate::output::Output;
 use dump::Answer;
 use dump::writer::Writer;
+use std::fs::File;
+use std::io::Write;
+use std::rt::Files;
 use verdict::Check;
 
 // The writer after a chunk, and what the output got.
@@ -40,17 +43,17 @@ fn bytes_in(answer: Answer) -> usize
 }
 
 // Writes the lines before the changes.
-fn write_header(check: Check, output: Output) -> Output
+fn write_header<W: Write>(check: Check, output: Output, to: &mut W) -> Output
     requires { output.bytes ≡ 0 }
     ensures { (result ≡ wrote output (header_of (pins_in check))) × (result.bytes ≤ 6954) }
 {
     let mut lines = [0u8; 6954];
     let n = bytes_in(dump::header(check, &mut lines));
-    output.write(&lines[..n])
+    output.write(to, &lines[..n])
 }
 
 // Writes the lines of a chunk.
-fn write_lines(writer: Writer, chunk: &[u8], output: Output) -> Lines
+fn write_lines<W: Write>(writer: Writer, chunk: &[u8], output: Output, to: &mut W) -> Lines
     requires { (length chunk.now ≤ 640) × (output.bytes < 2 ^ 63) }
     ensures { WritesLines writer chunk.now output result }
 {
@@ -61,12 +64,12 @@ fn write_lines(writer: Writer, chunk: &[u8], output: Output) -> Lines
     let writer = step.writer;
     Lines {
         writer,
-        output: output.write(&lines[..n]),
+        output: output.write(to, &lines[..n]),
     }
 }
 
 // Writes the lines of an open file chunk by chunk.
-fn write_chunks(from: Input, to: Output) -> Written
+fn write_chunks<W: Write>(from: Input, file: &mut Option<File>, to: Output, out: &mut W) -> Written
     requires { (Opens from) × (to.bytes ≤ 6954) }
     ensures { WritesChunks from to result.input result.output }
 {
@@ -75,9 +78,9 @@ fn write_chunks(from: Input, to: Output) -> Written
     let mut output = to;
     let mut writer = Writer::new();
     while input.more() {
-        input = input.read(&mut area);
+        input = input.read(file, &mut area);
         let n = input.count();
-        let lines = write_lines(writer, &area[..n], output);
+        let lines = write_lines(writer, &area[..n], output, out);
         writer = lines.writer;
         output = lines.output;
     }
@@ -85,18 +88,25 @@ fn write_chunks(from: Input, to: Output) -> Written
 }
 
 // Opens a file again and writes its dump; nothing where it cannot be opened.
-pub fn write_file(path: &[u8], check: Check, output: Output) -> Written
+pub fn write_file<R: Files<File = File>, W: Write>(
+    rt: &R,
+    path: &str,
+    check: Check,
+    output: Output,
+    out: &mut W,
+) -> Written
     requires { output.bytes ≡ 0 }
     ensures { Writes check output result.input result.output }
 {
-    let input = Input::open(path);
+    let Opened { input, mut file } = Input::open(rt, path);
     if input.failed() {
+        input.close(file);
         return Written { input, output };
     }
-    let headed = write_header(check, output);
-    let written = write_chunks(input, headed);
+    let headed = write_header(check, output, out);
+    let written = write_chunks(input, &mut file, headed, out);
     let input = written.input;
-    input.close();
+    input.close(file);
     written
 }
 

@@ -2,6 +2,8 @@
 
 #![tactic(auto)]
 
-fn main() {
-    soak::dump_file(b"door.log");
+fn main(rt: HostRuntime) {
+    let mut output = rt.stdout();
+    let mut error = rt.stderr();
+    soak::dump_file(&rt, "door.log", &mut output, &mut error);
 }

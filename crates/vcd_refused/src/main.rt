@@ -1,64 +1,51 @@
-// Runs the dump of `vcd` on files that are refused, and on an empty one. Standard error is a file meanwhile, so that each descriptor is seen on its own:
+// Runs the dump of `vcd` on files that are refused, and on an empty one. A file stands for standard error, so that each output is seen on its own:
 // a path, what standard output gets, a line `-- standard error`, and what that file then holds.
 
 #![tactic(auto)]
 
-use libc::{STDERR_FILENO, STDOUT_FILENO};
+use std::fs::File;
+use std::rt::Files;
+use std::{fs, io};
 
 // One record longer than the longest log: 2^30 is no multiple of ten.
-const TOO_LONG: i64 = 1073741830;
+const TOO_LONG: u64 = 1073741830;
 
-fn line(text: &[u8]) {
-    io::write_all(STDOUT_FILENO, text);
-    io::write_all(STDOUT_FILENO, b"\n");
+// Writes what the file for standard error got to standard output.
+fn show(rt: &HostRuntime) -> io::Result<()> {
+    let text = fs::read(rt, "stderr")?;
+    rt.write_all(&text)
 }
 
-// Opens a new file as standard error: it takes the least descriptor that is free. Yields whether it did.
-fn redirect() -> bool {
-    libc::close(STDERR_FILENO);
-    os::open_overwrite(b"stderr") == STDERR_FILENO
-}
-
-// Writes what standard error got to standard output.
-fn show() {
-    let mut text = [0u8; 64];
-    let fd = os::open_read(b"stderr");
-    let n = io::read_full(fd, &mut text);
-    libc::close(fd);
-    io::write_all(STDOUT_FILENO, &text[..n]);
-}
-
-fn run(path: &[u8]) {
-    line(path);
-    if redirect() {
-        soak::dump_file(path);
-        line(b"-- standard error");
-        show();
-    }
+// A new file stands for standard error.
+fn run(rt: &HostRuntime, path: &str) -> io::Result<()> {
+    println!(rt; "{path}")?;
+    let mut output = rt.stdout();
+    let mut error = File::create(rt, "stderr")?;
+    soak::dump_file(rt, path, &mut output, &mut error);
+    println!(rt; "-- standard error")?;
+    show(rt)
 }
 
 // Makes a file of zeros.
-fn zeros(path: &[u8], bytes: i64) {
-    let fd = os::open_overwrite(path);
-    libc::ftruncate(fd, bytes);
-    libc::close(fd);
+fn zeros(rt: &HostRuntime, path: &str, bytes: u64) -> io::Result<()> {
+    File::create(rt, path)?.set_len(bytes)
 }
 
-fn main() {
-    zeros(b"too_long.log", TOO_LONG);
-    run(b"missing.log");
-    run(b".");
-    run(b"odd.log");
-    run(b"late_then_odd.log");
-    run(b"too_long.log");
-    run(b"kind_3.log");
-    run(b"filler_of_a_pin.log");
-    run(b"filler_of_a_flag.log");
-    run(b"filler_of_a_trigger.log");
-    run(b"filler_and_late.log");
-    run(b"late.log");
-    run(b"late_in_the_second_piece.log");
-    run(b"far.log");
-    run(b"far_then_late.log");
-    run(b"empty.log");
+fn main(rt: HostRuntime) -> io::Result<()> {
+    zeros(&rt, "too_long.log", TOO_LONG)?;
+    run(&rt, "missing.log")?;
+    run(&rt, ".")?;
+    run(&rt, "odd.log")?;
+    run(&rt, "late_then_odd.log")?;
+    run(&rt, "too_long.log")?;
+    run(&rt, "kind_3.log")?;
+    run(&rt, "filler_of_a_pin.log")?;
+    run(&rt, "filler_of_a_flag.log")?;
+    run(&rt, "filler_of_a_trigger.log")?;
+    run(&rt, "filler_and_late.log")?;
+    run(&rt, "late.log")?;
+    run(&rt, "late_in_the_second_piece.log")?;
+    run(&rt, "far.log")?;
+    run(&rt, "far_then_late.log")?;
+    run(&rt, "empty.log")
 }

@@ -1,9 +1,9 @@
 -- The claims of specs/Claims.antt.
-use Prim.Native.Nat.{ℕ, zero, suc, ◌+◌, ◌-◌, ◌/◌, ◌%◌, ◌≤◌, ◌<◌, ◌^◌}
+use Prim.Native.Nat.{ℕ, zero, suc, ◌+◌, ◌-◌, ◌/◌, ◌≤◌, ◌<◌, ◌^◌}
 use native.Mathlib.Decide.{dec_le}
 use native.Mathlib.Omega.{arith}
 use mathlib.Core.Path.{◌≡◌, refl, sym, ap, ◌∙◌}
-use mathlib.Core.Bool.{Bool, true, false, cond, not, ◌&&◌, ◌||◌}
+use mathlib.Core.Bool.{Bool, true, false, cond, not, ◌||◌}
 use mathlib.Core.List.{List, [], ◌∷◌, ◌++◌, append_assoc, append-nil}
 use lib.Dec.{eqb, leb, ltb}
 use lib.ListN.{length, get_or, set, replicate, length-set, length-replicate}
@@ -11,14 +11,14 @@ use lib.Seq.{get_or-set_same, get_or-set_other}
 use borrow.Author.Tests.{eqb-true, eqb-false, eq-eqb, ne_eqb, le-leb, lt-leb, le-ltb, lt-ltb}
 use Rattle.records.specs.Records.{record_at, kind_in, cycle_in, body_in}
 use Rattle.pieces.specs.declared.Whole.{Whole}
-use Rattle.pieces.specs.Pieces.{start, between, kind_of, cycle_of, part_after, wholes, whole_in, wholes_in, Bytes, joined}
+use Rattle.pieces.specs.Pieces.{start, kind_of, cycle_of, part_after, wholes, whole_in, wholes_in, Bytes, joined}
 use Rattle.pieces.proofs.Claims.{of-a-log}
 use Rattle.verdict.specs.declared.judge.Judge.{Judge}
 use Rattle.verdict.specs.declared.Check.{Check}
 use Rattle.verdict.specs.Changes.{Change, state_of, change_in, changes_in, changes_of, has, change_of, changes}
 use Rattle.verdict.specs.Refusal.{formed, before, refused_at, first_refusal, longest, refusal_of}
 use Rattle.verdict.specs.Check.{fresh, first_fault, refused_after, judged, judged_all, noted, noted_all, counted, checked, refusal_in, pins_in}
-use Rattle.verdict.specs.Claims.{checked_all, Checks, ByPieces}
+use Rattle.verdict.specs.Claims.{checked_all, ByPieces}
 use Rattle.verdict.proofs.Checks.{or-true, or-false, judged-append, checked-append}
 
 -- ---- the changes of whole records

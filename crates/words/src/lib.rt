@@ -99,6 +99,7 @@ fn count(text: &[u8], from: usize) -> usize
 }
 
 // Stops where not as many words are left as wanted.
+#[tactic(auto, unfolding(crate::specs::Words::count_why))]
 pub fn exactly(text: &[u8], at: usize, wanted: usize) -> Cursor
     ensures { result ≡ exactly_of text.now at wanted }
 {

@@ -1,16 +1,15 @@
 -- `events::Events::earliest` meets its contract. The loop's invariant: place and cycle are the foremost of the events passed.
-use Prim.Native.Nat.{◌-◌, ◌<◌}
+use Prim.Native.Nat.{◌<◌}
 use mathlib.Core.Path.{◌≡◌}
 use mathlib.Core.List.{[]}
-use mathlib.Core.Logic.{⊎_elim}
 use native.Mathlib.Omega.{arith}
-use lib.ListN.{length, take}
+use lib.ListN.{length}
 use lib.Seq.{get_or-take}
-use borrow.Author.Rules.{rules}
 use Rattle.events.specs.Events.{blank, list_in, earliest, position}
-use Rattle.events.proofs.Lists.{Found, found_first, found-later, found-earlier, found_all}
+use Rattle.events.proofs.Lists.{found_first, found-later, found-earlier, found_all}
 use Rattle.events.proofs.Places.{count-is}
 use Rattle.events.proofs.Events.earliest.Goals as goal
+use Rattle.events.proofs.Events.earliest.Goals.{then-event-cycle, else-event-cycle}
 
 pub returns-then-count-eq0 : goal.returns-then-count-eq0
 unfolding earliest position
@@ -42,10 +41,10 @@ loop-i-preserved c =
     let v = c.args.self in
     let n = count-is v c.requires in
     let event = get_or-take v.count v.places c.loop-i.i blank c.loop-i-test.true in
-    ⊎_elim
-    (λ w. rw (w.1, w.2) (found-earlier c.loop-i.invariant (omega arith) event w.0.taken))
-    (λ w. rw (w.1, w.2) (found-later c.loop-i.invariant (omega arith) event w.0.left))
-    c.if-event-cycle.branch
+    elim c.if-event-cycle.branch [
+      | then-event-cycle w ↦ rw (w.place-is, w.cycle-is) (found-earlier c.loop-i.invariant (omega arith) event w.if-event-cycle.true)
+      | else-event-cycle w ↦ rw (w.place-is, w.cycle-is) (found-later c.loop-i.invariant (omega arith) event w.if-event-cycle.false)
+    ]
 
 pub returns : goal.returns
 returns c =

@@ -1,7 +1,6 @@
 -- `events::Events::get` meets its contract: a place below the count is one of the list.
 use mathlib.Core.Path.{sym}
 use lib.Seq.{get_or-take}
-use borrow.Author.Rules.{rules}
 use Rattle.events.specs.Events.{blank}
 use Rattle.events.proofs.Events.get.Goals as goal
 

@@ -1,6 +1,5 @@
 -- `events::Events::new` meets its contract: 64 blanks are the places of the empty list.
 use native.Mathlib.Omega.{arith}
-use borrow.Author.Rules.{rules}
 use Rattle.events.proofs.Places.{kept}
 use Rattle.events.proofs.Events.new.Goals as goal
 

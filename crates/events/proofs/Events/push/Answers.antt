@@ -3,7 +3,6 @@ use Prim.Native.Nat.{◌+◌}
 use mathlib.Core.Path.{ap, ◌∙◌}
 use native.Mathlib.Omega.{arith}
 use lib.ListN.{set, length-append}
-use borrow.Author.Rules.{rules}
 use Rattle.events.specs.declared.Events.{Events}
 use Rattle.events.specs.Events.{list_in}
 use Rattle.events.proofs.Places.{count-is, kept, push-listed}

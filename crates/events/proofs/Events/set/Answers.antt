@@ -2,7 +2,6 @@
 use mathlib.Core.Path.{ap, ◌∙◌}
 use native.Mathlib.Omega.{arith}
 use lib.ListN.{set, length-set}
-use borrow.Author.Rules.{rules}
 use Rattle.events.specs.declared.Events.{Events}
 use Rattle.events.specs.Events.{list_in}
 use Rattle.events.proofs.Places.{count-is, kept, set-listed}

@@ -3,7 +3,6 @@ use Prim.Native.Nat.{ℕ, ◌-◌}
 use mathlib.Core.Path.{sym, ap, ◌∙◌}
 use native.Mathlib.Omega.{arith}
 use lib.ListN.{set, get_or}
-use borrow.Author.Rules.{rules}
 use Rattle.events.specs.declared.Events.{Events}
 use Rattle.events.specs.Events.{blank, list_in}
 use Rattle.events.proofs.Lists.{length-swap}

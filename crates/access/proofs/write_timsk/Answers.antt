@@ -1,0 +1,16 @@
+use Rattle.timer.proofs.Outcomes.{turned-away, at_once, plainly}
+use Rattle.timer.specs.Calls.{asks, works, says, refusal_of}
+use mathlib.Core.Path.{refl}
+use borrow.Author.Rules.{rules}
+use Rattle.access.proofs.write_timsk.Goals as goal
+
+pub refusal-n-requires : goal.refusal-n-requires
+refusal-n-requires c = c.requires
+
+pub returns-then-n-ne0 : goal.returns-then-n-ne0
+unfolding refusal_of asks
+returns-then-n-ne0 c = turned-away _ _ _ _ c.requires c.refusal-n.ensures c.if-n-ne0.true c.refused.ensures
+
+pub returns : goal.returns
+unfolding refusal_of asks works says
+returns c = plainly _ _ _ _ (at_once _ _ _ _ c.requires c.refusal-n.ensures c.if-n-ne0.false refl refl) c.with_timsk.result c.with_timsk.ensures refl refl refl c.done.ensures

@@ -1,0 +1,7 @@
+use Rattle.answers.specs.Refusals.{late}
+use borrow.Author.Rules.{rules}
+use Rattle.answers.proofs.refusals.late.Goals as goal
+
+pub returns : goal.returns
+unfolding late
+returns c = c.refusal.ensures

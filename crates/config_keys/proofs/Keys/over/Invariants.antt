@@ -1,0 +1,15 @@
+-- `config_keys::Keys::over` meets its contract. The loop's invariant: the values passed are filled from the other's.
+use lib.ListN.{length}
+use borrow.Author.Rules.{rules}
+use Rattle.config_keys.proofs.Reading.{fill_more, fill-all, keys-are, fill}
+use native.Mathlib.Numerals.{add-one}
+use native.Mathlib.Omega.{arith}
+use mathlib.Core.Path.{refl, ◌∙◌, ◌≡◌}
+use Prim.Native.Nat.{◌≤◌, ◌-◌}
+use Rattle.config_keys.proofs.Keys.over.Given as goal
+
+abbrev pub invariant-loop-key : goal.invariant-loop-key
+invariant-loop-key l = (l.key ≤ 29) × (l.keys.why ≡ l.self.why) × (l.keys.values ≡ fill l.key l.self.values l.other.values)
+
+abbrev pub decreases-loop-key : goal.decreases-loop-key
+decreases-loop-key l = 29 - l.key

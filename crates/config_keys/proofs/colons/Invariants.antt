@@ -1,0 +1,16 @@
+-- `config_keys::colons` meets its contract. The loop's invariant: the colons passed are counted.
+use Rattle.config_keys.proofs.Reading.{occurs-more}
+use lib.Seq.{take_all}
+use native.Mathlib.Omega.{arith}
+use mathlib.Core.Path.{refl, sym, ap, ◌∙◌, ◌≡◌}
+use borrow.Author.Rules.{rules}
+use Prim.Native.Nat.{◌≤◌, ◌-◌}
+use lib.ListN.{length, take}
+use Rattle.config_keys.specs.Keys.{occurs}
+use Rattle.config_keys.proofs.colons.Given as goal
+
+abbrev pub invariant-loop-i : goal.invariant-loop-i
+invariant-loop-i l = (l.i ≤ length l.word) × (l.n ≤ l.i) × (l.n ≡ occurs 58 (take l.i l.word))
+
+abbrev pub decreases-loop-i : goal.decreases-loop-i
+decreases-loop-i l = length l.word - l.i

@@ -1,0 +1,5 @@
+use borrow.Author.Rules.{rules}
+use Rattle.counter.proofs.state.Timer.prescaler.Goals as goal
+
+pub returns : goal.returns
+returns c = simp c.divisor.ensures

@@ -1,0 +1,7 @@
+use Rattle.counter.specs.Halts.{reduced_to}
+use borrow.Author.Rules.{rules}
+use Rattle.counter.proofs.state.Timer.reduced.Goals as goal
+
+pub returns : goal.returns
+unfolding reduced_to
+returns c = simp (c.with_halts.ensures, c.reduce.ensures)

@@ -1,0 +1,43 @@
+use Rattle.records.proofs.Records.{sets_more}
+use lib.Seq.{sets, take_all}
+use lib.ListN.{length, take, length-set}
+use native.Mathlib.Omega.{arith}
+use mathlib.Core.Path.{◌≡◌, refl, ap, ◌∙◌}
+use Prim.Native.Nat.{◌-◌, ◌≤◌}
+use Rattle.figures.proofs.put.Goals as goal
+
+pub loop-i-init : goal.loop-i-init
+loop-i-init c = (omega arith, refl, refl)
+
+pub bounds-bytes-i : goal.bounds-bytes-i
+bounds-bytes-i c = omega arith
+
+pub overflow_add-out : goal.overflow_add-out
+overflow_add-out c = omega arith
+
+pub bounds-out-at : goal.bounds-out-at
+bounds-out-at c = omega (arith, c.loop-i.invariant.2)
+
+pub overflow_add-i : goal.overflow_add-i
+overflow_add-i c = omega arith
+
+pub loop-i-smaller : goal.loop-i-smaller
+loop-i-smaller c = omega arith
+
+pub loop-i-preserved : goal.loop-i-preserved
+loop-i-preserved c =
+    (
+      omega arith,
+      rw c.loop-i.invariant.1 (sets_more _ c.args.at _ c.loop-i.i c.loop-i-test.true),
+      simp length-set c.loop-i.invariant.2,
+    )
+
+pub overflow_add-result : goal.overflow_add-result
+overflow_add-result c = omega arith
+
+pub shape_of-out : goal.shape_of-out
+shape_of-out c = c.loop-i.invariant.2
+
+pub returns : goal.returns
+returns c =
+    record { place = omega arith; area = c.loop-i.invariant.1 ∙ ap (sets c.args.out.now c.args.at) (take_all c.loop-i.i c.args.bytes.now c.loop-i-test.false) }

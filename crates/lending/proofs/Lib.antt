@@ -1,2 +1,0 @@
-pub mod Lender
-pub mod Walk

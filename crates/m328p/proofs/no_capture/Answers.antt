@@ -1,0 +1,5 @@
+use borrow.Author.Rules.{rules}
+use Rattle.m328p.proofs.no_capture.Goals as goal
+
+pub returns : goal.returns
+returns c = rw c.no_wire.ensures

@@ -1,0 +1,27 @@
+-- `record_ring::Ring::add` meets its contract: the area is another, or the places are full, or one is free.
+use mathlib.Core.Path.{◌≡◌}
+use native.Mathlib.Omega.{arith}
+use lib.ListN.{length}
+use borrow.Author.Tests.{eq-eqb, ne_eqb}
+use Rattle.record_ring.specs.Log.{added}
+use Rattle.record_ring.proofs.Ring.add.Goals as goal
+
+pub returns-then-area-ne-BYTES : goal.returns-then-area-ne-BYTES
+unfolding added
+returns-then-area-ne-BYTES c =
+    let other : length c.args.area.now ≡ 60000 → ⊥ = λ e. omega (arith, c.if-area-ne-BYTES.true) in
+    (simp (ne_eqb _ 60000 other), c.requires)
+
+pub returns-then-held-eq-PLACES : goal.returns-then-held-eq-PLACES
+unfolding added
+returns-then-held-eq-PLACES c =
+    let fits : length c.args.area.now ≡ 60000 = omega arith in
+    let full : c.args.self.held ≡ 6000 = omega arith in
+    (simp (eq-eqb _ 60000 fits, eq-eqb _ 6000 full), c.requires)
+
+pub returns : goal.returns
+unfolding added
+returns c =
+    let fits : length c.args.area.now ≡ 60000 = omega arith in
+    let free : c.args.self.held ≡ 6000 → ⊥ = λ e. omega (arith, c.if-held-eq-PLACES.false) in
+    (simp (eq-eqb _ 60000 fits, ne_eqb _ 6000 free, c.store.ensures), record { place = omega arith; room = omega (arith, free) })

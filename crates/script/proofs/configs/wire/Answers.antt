@@ -1,0 +1,6 @@
+-- `script::configs::wire` meets its contract.
+use borrow.Author.Rules.{rules}
+use Rattle.script.proofs.configs.wire.Goals as goal
+
+pub returns : goal.returns
+returns c = rw c.low8.ensures

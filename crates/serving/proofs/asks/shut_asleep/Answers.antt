@@ -1,0 +1,6 @@
+use mathlib.Core.Path.{refl}
+use borrow.Author.Rules.{rules}
+use Rattle.serving.proofs.asks.shut_asleep.Goals as goal
+
+pub returns : goal.returns
+returns c = rw c.turning.ensures refl
