@@ -232,8 +232,8 @@ module _ (c : Config) (h : accepted c ≡ true) where
   a-b : bit_and c.a.flag c.b.flag ≡ 0
   a-b = apart c.a.present _ _ _ a_one b-one (λ p q. another c.b.present c.b.flag la d-b q c.a.flag (a_in p))
 
-  a_c : bit_and c.a.flag c.c.flag ≡ 0
-  a_c = apart c.a.present _ _ _ a_one c-one (λ p q. another c.c.present c.c.flag lb d-c q c.a.flag (in-lb _ (a_in p)))
+  a-c : bit_and c.a.flag c.c.flag ≡ 0
+  a-c = apart c.a.present _ _ _ a_one c-one (λ p q. another c.c.present c.c.flag lb d-c q c.a.flag (in-lb _ (a_in p)))
 
   a-icf : bit_and c.a.flag c.icr.flag ≡ 0
   a-icf = apart c.a.present _ _ _ a_one icf-one (λ p q. another c.icr.present c.icr.flag lc d-i q c.a.flag (in-lc _ (in-lb _ (a_in p))))
@@ -260,7 +260,7 @@ apart_of c s h k = record {
   tov-c = rw (k.tov, k.c) (tov-c c h);
   tov-icf = rw (k.tov, k.icf) (tov-icf c h);
   a-b = rw (k.a, k.b) (a-b c h);
-  a_c = rw (k.a, k.c) (a_c c h);
+  a-c = rw (k.a, k.c) (a-c c h);
   a-icf = rw (k.a, k.icf) (a-icf c h);
   b-c = rw (k.b, k.c) (b-c c h);
   b-icf = rw (k.b, k.icf) (b-icf c h);

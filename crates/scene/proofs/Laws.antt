@@ -184,7 +184,7 @@ module _ (s : Setting) (m : Moving) (k : Apart s) where
   unfolding raised
   a-met =
       five (cond e.overflow s.tov 0) (cond e.a s.a.flag 0) (cond e.b s.b.flag 0) (cond e.capture s.icf 0) (cond e.c s.c.flag 0) s.a.flag
-      ∙ rw (missed e.overflow s.tov s.a.flag k.tov-a, met e.a s.a.flag, missed e.b s.b.flag s.a.flag (and_comm s.b.flag s.a.flag ∙ k.a-b), missed e.capture s.icf s.a.flag (and_comm s.icf s.a.flag ∙ k.a-icf), missed e.c s.c.flag s.a.flag (and_comm s.c.flag s.a.flag ∙ k.a_c))
+      ∙ rw (missed e.overflow s.tov s.a.flag k.tov-a, met e.a s.a.flag, missed e.b s.b.flag s.a.flag (and_comm s.b.flag s.a.flag ∙ k.a-b), missed e.capture s.icf s.a.flag (and_comm s.icf s.a.flag ∙ k.a-icf), missed e.c s.c.flag s.a.flag (and_comm s.c.flag s.a.flag ∙ k.a-c))
       (second-of (cond e.a s.a.flag 0))
     where
       second-of : (x : ℕ) → bit_or (bit_or (bit_or (bit_or 0 x) 0) 0) 0 ≡ x
@@ -214,7 +214,7 @@ module _ (s : Setting) (m : Moving) (k : Apart s) where
   unfolding raised
   c_met =
       five (cond e.overflow s.tov 0) (cond e.a s.a.flag 0) (cond e.b s.b.flag 0) (cond e.capture s.icf 0) (cond e.c s.c.flag 0) s.c.flag
-      ∙ rw (missed e.overflow s.tov s.c.flag k.tov-c, missed e.a s.a.flag s.c.flag k.a_c, missed e.b s.b.flag s.c.flag k.b-c, missed e.capture s.icf s.c.flag (and_comm s.icf s.c.flag ∙ k.c-icf), met e.c s.c.flag)
+      ∙ rw (missed e.overflow s.tov s.c.flag k.tov-c, missed e.a s.a.flag s.c.flag k.a-c, missed e.b s.b.flag s.c.flag k.b-c, missed e.capture s.icf s.c.flag (and_comm s.icf s.c.flag ∙ k.c-icf), met e.c s.c.flag)
       (or_zero_l (cond e.c s.c.flag 0))
 
   on-tov : on (up_now s m) s.tov ≡ e.overflow

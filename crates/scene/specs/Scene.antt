@@ -29,7 +29,7 @@ pub record Apart (s : Setting) : Type 0 where
   pub tov-c : bit_and s.tov s.c.flag ≡ 0
   pub tov-icf : bit_and s.tov s.icf ≡ 0
   pub a-b : bit_and s.a.flag s.b.flag ≡ 0
-  pub a_c : bit_and s.a.flag s.c.flag ≡ 0
+  pub a-c : bit_and s.a.flag s.c.flag ≡ 0
   pub a-icf : bit_and s.a.flag s.icf ≡ 0
   pub b-c : bit_and s.b.flag s.c.flag ≡ 0
   pub b-icf : bit_and s.b.flag s.icf ≡ 0
