@@ -138,6 +138,10 @@ def turn(text, var, f, at, notes, to=None):
         return f"{to}.{f.path(at, depth, field, notes)}"
 
     text = re.sub(r"(?<![\w.'-])" + re.escape(var) + r"((?:\.before)*)(?:\.(" + ID + r"+))?(?![\w'-])", one, text)
+    # a test of `!x`: its fact is of x today
+    atom = r"(?:\((?:[^()]|\([^()]*\))*\)|[^\s()]+)"
+    text = re.sub(r"not-true " + atom + r" (" + re.escape(to) + r"\.[^\s(),]+\.true)(?=[),\s])", r"\1", text)
+    text = re.sub(r"not-false " + atom + r" (" + re.escape(to) + r"\.[^\s(),]+\.false)(?=[),\s])", r"\1", text)
     text = re.sub(r"\.is\.keys\d+", ".is", text)
     text = re.sub(r"\.is\.given(\.1)?(?![\w'-])", ".is", text)
     text = re.sub(r"\.(in-" + ID + r"+)\." + ID + r"+\.given(\.1)?(?![\w'-])", r".\1.is", text)

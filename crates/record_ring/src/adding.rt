@@ -8,6 +8,7 @@ use crate::{Answer, BYTES, PLACES, Ring};
 
 impl Ring {
     // Adds a record at the next place. A refused call changes nothing.
+    #[tactic(auto, unfolding(crate::specs::Log::added))]
     pub fn add(self, area: &mut [u8], bytes: [u8; 10]) -> Answer
         requires { Valid self }
         ensures { ((result.number, result.ring, area.new) ≡ added self area.old bytes) × Valid result.ring }

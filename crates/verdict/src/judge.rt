@@ -33,6 +33,7 @@ fn formed(kind: u64, body: u16) -> bool
 }
 
 // The number of the first fault that a record has, 0 where it has none.
+#[tactic(auto, unfolding(crate::specs::Check::first_fault))]
 fn first_fault(malformed: bool, late: bool, far: bool) -> u8
     ensures { result ≡ first_fault malformed late far }
 {

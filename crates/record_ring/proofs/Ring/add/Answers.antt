@@ -12,16 +12,9 @@ returns-then-area-ne-BYTES c =
     let other : length c.args.area.now ≡ 60000 → ⊥ = λ e. omega (arith, c.if-area-ne-BYTES.true) in
     (simp (ne_eqb _ 60000 other), c.requires)
 
-pub returns-then-held-eq-PLACES : goal.returns-then-held-eq-PLACES
-unfolding added
-returns-then-held-eq-PLACES c =
-    let fits : length c.args.area.now ≡ 60000 = omega arith in
-    let full : c.args.self.held ≡ 6000 = omega arith in
-    (simp (eq-eqb _ 60000 fits, eq-eqb _ 6000 full), c.requires)
-
 pub returns : goal.returns
 unfolding added
 returns c =
     let fits : length c.args.area.now ≡ 60000 = omega arith in
-    let free : c.args.self.held ≡ 6000 → ⊥ = λ e. omega (arith, c.if-held-eq-PLACES.false) in
+    let free : c.args.self.held ≡ 6000 → ⊥ = λ e. omega arith in
     (simp (eq-eqb _ 60000 fits, ne_eqb _ 6000 free, c.store.ensures), record { place = omega arith; room = omega (arith, free) })
