@@ -1,7 +1,6 @@
 -- What an order to the board aims at (02, 2.6).
 use Rattle.std.specs.Prelude.{ℕ, ◌/◌, cond, eqb, ltb}
 use Rattle.std.specs.Int.Bits.{bit_and}
-use Rattle.m328p.specs.declared.Id.{Id}
 use Rattle.m328p.specs.declared.Place.{Place}
 use Rattle.m328p.specs.declared.Place.TheVariants as place
 use Rattle.m328p.specs.Places.{place_at}

@@ -2,10 +2,7 @@
 use Prim.Native.Nat.{ℕ}
 use mathlib.Core.Path.{◌≡◌, refl, sym, ap, ◌∙◌}
 use mathlib.Core.List.{List}
-use lib.Dec.{eqb}
 use borrow.Author.Tests.{eq-eqb, ne_eqb}
-use Rattle.counter.specs.declared.state.Timer.{Timer}
-use Rattle.counter.specs.Valid.{Valid as Running}
 use Rattle.passage.specs.Passage.{ticks}
 use Rattle.answers.specs.declared.Answer.TheVariants as answer
 use Rattle.answers.specs.declared.Outcome.{Outcome as Timer-as-Outcome}
@@ -24,8 +21,8 @@ use Rattle.casts.proofs.Silent.{reached-silent}
 use Rattle.board.specs.declared.state.Board.{Board}
 use Rattle.board.specs.declared.outcome.Outcome.{Outcome}
 use Rattle.board.specs.declared.outcome.Written.{Written}
-use Rattle.board.specs.State.{Valid, timer_of, board_to, board_all}
-use Rattle.board.specs.Calls.{Areas, area_of, areas_to, written_of, nothing, Told, own_told, all_told, aimed, told, Tells, Took}
+use Rattle.board.specs.State.{Valid, board_to, board_all}
+use Rattle.board.specs.Calls.{Areas, areas_to, written_of, nothing, own_told, all_told, aimed, told, Tells, Took}
 
 -- ---- what the code keeps of a timer's own call
 module _ (b : Board) (i : Id) (o : Timer-as-Outcome) {n : ℕ} {w : Written} (e : n ≡ number_of o.answer) (g : w ≡ written_of i o.written) where

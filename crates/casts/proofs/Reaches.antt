@@ -1,8 +1,7 @@
 -- TSM and then the prescaler reset, of one timer, over plain values.
 use Prim.Native.Nat.{ℕ}
-use mathlib.Core.Path.{◌≡◌, refl, sym, ap, ◌∙◌}
+use mathlib.Core.Path.{◌≡◌, refl, sym, ◌∙◌}
 use mathlib.Core.List.{List}
-use lib.Dec.{eqb}
 use borrow.Author.Tests.{eq-eqb, ne_eqb}
 use Rattle.counter.specs.declared.state.Timer.{Timer}
 use Rattle.counter.specs.Valid.{Valid}
@@ -12,7 +11,7 @@ use Rattle.answers.specs.declared.Outcome.{Outcome}
 use Rattle.answers.specs.Answers.{Told, Tells, number_of}
 use Rattle.timer.specs.declared.calls.Call.TheVariants as call
 use Rattle.timer.specs.Calls.{answered}
-use Rattle.casts.specs.Casts.{or_back, prescaled}
+use Rattle.casts.specs.Casts.{prescaled}
 use Rattle.casts.proofs.Silent.{tsm-silent}
 
 -- the number of the code's answer is the definition's

@@ -1,9 +1,8 @@
 -- A timer's event planned: what is held is again exactly the next events.
 use Prim.Native.Nat.{ℕ, ◌+◌, ◌-◌, ◌≤◌, ◌<◌}
 use native.Mathlib.Omega.{arith}
-use native.Mathlib.Decide.{dec_lt}
 use mathlib.Core.Path.{◌≡◌, refl, sym, ap, ◌∙◌}
-use mathlib.Core.Bool.{Bool, true, false, cond, not, ◌&&◌, true≢false, false≢true}
+use mathlib.Core.Bool.{Bool, true, false, cond, not, ◌&&◌, false≢true}
 use mathlib.Core.List.{List, [], ◌∷◌, ◌++◌}
 use lib.Dec.{eqb, ltb}
 use lib.ListN.{length, get_or, set, length-set, length-append, get_or-append}
@@ -18,7 +17,7 @@ use Rattle.events.specs.Events.{blank, same, place_of, swap_removed}
 use Rattle.events.proofs.Lists.{position-passes, position-within, from, length-swap, getD-swap, from-within}
 use Rattle.events.proofs.Places.{kept}
 use Rattle.scheduler.specs.declared.Scheduler.{Scheduler}
-use Rattle.scheduler.specs.Scheduler.{holding, held, holds, refuses, put, scheduled, removed}
+use Rattle.scheduler.specs.Scheduler.{holding, held, holds, put, scheduled, removed}
 use Rattle.scheduler.specs.Runs.{at, cancel, after, Sound}
 use Rattle.scheduler.proofs.Runs.{same_refl, same_key, after-sound}
 use Rattle.m328p.specs.declared.Id.{Id}

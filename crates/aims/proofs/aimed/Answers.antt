@@ -1,5 +1,4 @@
 use Rattle.aims.specs.Aims.{aim_of}
-use borrow.Author.Rules.{rules}
 use Rattle.aims.proofs.aimed.Goals as goal
 
 pub returns-in-Advance : goal.returns-in-Advance

@@ -1,4 +1,3 @@
-use borrow.Author.Rules.{rules}
 use Rattle.aims.proofs.at.Goals as goal
 
 pub returns-in-Gtccr : goal.returns-in-Gtccr

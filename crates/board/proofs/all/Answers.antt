@@ -1,5 +1,4 @@
 use Rattle.board.proofs.Outcomes.{all-refused, all-taken}
-use borrow.Author.Rules.{rules}
 use Rattle.board.proofs.all.Goals as goal
 
 pub returns-then-n-ne0 : goal.returns-then-n-ne0

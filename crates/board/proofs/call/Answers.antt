@@ -1,5 +1,4 @@
 use Rattle.board.proofs.Outcomes.{aim-tells, nowhere-tells, shown-tells}
-use borrow.Author.Rules.{rules}
 use Rattle.board.proofs.call.Goals as goal
 
 pub returns-in-Nowhere : goal.returns-in-Nowhere

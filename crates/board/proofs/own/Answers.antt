@@ -1,5 +1,4 @@
 use Rattle.board.proofs.Outcomes.{own-zero, own-one, own-two}
-use borrow.Author.Rules.{rules}
 use Rattle.board.proofs.own.Goals as goal
 
 pub took-requires : goal.took-requires

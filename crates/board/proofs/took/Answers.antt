@@ -1,5 +1,4 @@
 use Rattle.board.proofs.Outcomes.{took-none, took_it}
-use borrow.Author.Rules.{rules}
 use Rattle.board.proofs.took.Goals as goal
 
 pub returns-then-number-ne0 : goal.returns-then-number-ne0

@@ -1,5 +1,4 @@
 use Rattle.casts.specs.Casts.{reached}
-use borrow.Author.Rules.{rules}
 use Rattle.casts.proofs.reach.Goals as goal
 
 pub returns-in-Sleep : goal.returns-in-Sleep

@@ -1,6 +1,4 @@
 use Rattle.casts.proofs.Reaches.{tsm-refused, both-taken, reset-refused}
-use native.Mathlib.Omega.{arith}
-use borrow.Author.Rules.{rules}
 use Rattle.casts.proofs.synchronise.Goals as goal
 
 pub returns-then-number-ne0 : goal.returns-then-number-ne0

@@ -1,4 +1,3 @@
-use borrow.Author.Rules.{rules}
 use Rattle.plans.proofs.key.Goals as goal
 
 pub returns-in-Zero : goal.returns-in-Zero

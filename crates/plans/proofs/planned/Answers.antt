@@ -1,5 +1,4 @@
 use Rattle.plans.proofs.Steps.{at-planned, never-planned}
-use borrow.Author.Rules.{rules}
 use Rattle.plans.proofs.planned.Goals as goal
 
 pub returns-in-At : goal.returns-in-At

@@ -1,5 +1,4 @@
 use Rattle.board.proofs.Plans.{fresh-made}
-use borrow.Author.Rules.{rules}
 use Rattle.board.proofs.state.Board.new.Goals as goal
 
 pub returns : goal.returns

@@ -1,5 +1,4 @@
 use Rattle.board.proofs.Plans.{with-zero, with-one, with_two}
-use borrow.Author.Rules.{rules}
 use Rattle.board.proofs.state.Board.with.Goals as goal
 
 pub returns-in-Zero : goal.returns-in-Zero

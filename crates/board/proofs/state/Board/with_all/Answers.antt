@@ -1,5 +1,4 @@
 use Rattle.board.proofs.Plans.{with-three}
-use borrow.Author.Rules.{rules}
 use Rattle.board.proofs.state.Board.with_all.Goals as goal
 
 pub returns : goal.returns
