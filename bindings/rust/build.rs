@@ -14,7 +14,7 @@ fn main() {
         let archive = folder.join(format!("lib{name}.a"));
         println!("cargo:rerun-if-changed={}", archive.display());
         if !archive.is_file() {
-            eprintln!("paddlemauve: there is no {}: run `rt staticlib {name}` in the repository", archive.display());
+            eprintln!("paddlemauve: there is no {}: run `make library` in the repository", archive.display());
             process::exit(1);
         }
         println!("cargo:rustc-link-lib=static={name}");
