@@ -1,25 +1,25 @@
 -- Time that passes, over its ticks: from one sync cycle to the next.
-use Prim.Native.Nat.{ℕ, zero, suc, ◌+◌, ◌-◌, ◌*◌, ◌/◌, ◌%◌, ◌≤◌, ◌<◌, ◌^◌, max}
+use Prim.Native.Nat.{ℕ, zero, suc, ◌+◌, ◌-◌, ◌*◌, ◌%◌, ◌≤◌, ◌<◌, ◌^◌, max}
 use native.Mathlib.Omega.{arith}
 use native.Mathlib.Nat.{add-zero, add-sub_cancel_left, mul-div_cancel}
 use borrow.Author.Tests.{leb-true, leb-false}
 use mathlib.Core.Path.{◌≡◌, refl, sym, ap, ◌∙◌}
-use mathlib.Core.Bool.{Bool, true, false, cond, false≢true}
+use mathlib.Core.Bool.{Bool, true, false, false≢true}
 use mathlib.Core.List.{[]}
-use lib.Dec.{leb, leb-zero}
+use lib.Dec.{leb}
 use Rattle.config.specs.Config.{accepted}
 use Rattle.time.specs.declared.units.Prescaler.{Prescaler}
 use Rattle.time.specs.Units.{ticks_at, cycle_at}
-use Rattle.time.proofs.Clocks.{ticks-mono, tick-before}
+use Rattle.time.proofs.Clocks.{ticks-mono}
 use Rattle.wave.specs.Kinds.{N}
 use Rattle.tick.specs.declared.setting.Setting.{Setting}
 use Rattle.tick.specs.Setting.{channel_of}
 use Rattle.tick.proofs.Choices.{cond-case, cond-all}
 use Rattle.passage.specs.Passage.{Run, one, ticks}
-use Rattle.passage.proofs.Runs.{one-all, ticks-paused}
+use Rattle.passage.proofs.Runs.{ticks-paused}
 use Rattle.counter.specs.declared.state.Timer.{Timer}
-use Rattle.counter.specs.Modes.{mode_of, kind_at, max_at, wave_of, divisor_of, prescaler_of, running_of}
-use Rattle.counter.specs.Setting.{setting_of, setting_at, moving_of}
+use Rattle.counter.specs.Modes.{max_at, wave_of, divisor_of, prescaler_of, running_of}
+use Rattle.counter.specs.Setting.{setting_of, setting_at}
 use Rattle.counter.specs.Passage.{Passed, due, start, passed, sync_to, sync_of, synced, advanced}
 use Rattle.counter.specs.Valid.{Valid}
 use Rattle.counter.proofs.Bounds.{valid-sound}

@@ -2,34 +2,32 @@
 use Prim.Native.Nat.{ℕ, zero, suc, ◌+◌, ◌-◌, ◌*◌, ◌/◌, ◌%◌, ◌≤◌, ◌^◌}
 use native.Mathlib.Omega.{arith}
 use native.Mathlib.Nat.{add-zero, zero-add, mul-add}
-use mathlib.Core.Path.{◌≡◌, refl, sym, ap, ◌∙◌}
-use mathlib.Core.Bool.{Bool, true, false, cond, not, ◌&&◌, ◌||◌}
-use mathlib.Core.List.{List, [], ◌∷◌, ◌++◌}
+use mathlib.Core.Path.{◌≡◌, refl, sym, ◌∙◌}
+use mathlib.Core.Bool.{Bool, true, false, cond, not, ◌&&◌}
+use mathlib.Core.List.{[]}
 use lib.Dec.{eqb, leb}
-use lib.ListN.{length, get_or}
-use lib.Bits.{bit_or, bit_and, or_zero_r}
-use borrow.Author.Tests.{eqb-true, eqb-false}
-use Rattle.records.specs.declared.Entry.{Entry}
-use Rattle.records.specs.Records.{only, records_of}
+use lib.ListN.{get_or}
+use lib.Bits.{bit_and, or_zero_r}
+use borrow.Author.Tests.{eqb-true}
+use Rattle.records.specs.Records.{only}
 use Rattle.config.specs.declared.Wire.{Wire}
 use Rattle.config.specs.Config.{one_bit}
 use Rattle.time.specs.declared.units.Prescaler.{Prescaler}
-use Rattle.time.specs.Units.{cycle_at}
 use Rattle.wave.specs.Kinds.{N}
 use Rattle.wave.specs.Count.{falls, overflows, next_count, counted}
 use Rattle.tick.specs.declared.happenings.Events.{Events}
 use Rattle.tick.specs.declared.setting.Channel.{Channel}
 use Rattle.tick.specs.declared.setting.Moving.{Moving}
 use Rattle.tick.specs.declared.setting.Setting.{Setting}
-use Rattle.tick.specs.Outputs.{bit, Outs, pin_entry, recorded, on_pin, acted, matched, bottomed, matches_of, bottoms_of, matches, bottoms, outputs, outs_of, reapplied, strobed}
+use Rattle.tick.specs.Outputs.{bit, Outs, pin_entry, recorded, on_pin, acted, matched, bottomed, matches_of, bottoms_of, matches, outputs, outs_of, reapplied, strobed}
 use Rattle.tick.specs.Tick.{events_at, events_of, raised, raises, line, lines, flag_entry, trigger_entry, flag_log_of, flag_log, tick_by, tick}
 use Rattle.tick.specs.Sound.{Sound}
 use Rattle.tick.proofs.Choices.{cond-all}
 use Rattle.tick.proofs.Still.{tick-keeps}
 use Rattle.passage.specs.Passage.{Run, one, ticks}
-use Rattle.passage.proofs.Runs.{bytes_after, one-all}
+use Rattle.passage.proofs.Runs.{one-all}
 use Rattle.account.proofs.Flags.{bit-or, bit-low, bit-own, bit-none}
-use Rattle.account.proofs.Records.{raiser, raisers, raisers-append, Worth, worth-none, worth-then}
+use Rattle.account.proofs.Records.{raisers, raisers-append, Worth, worth-none, worth-then}
 
 -- ---- outputs raise no flag
 module _ (flag : ℕ) where

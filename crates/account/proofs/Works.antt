@@ -1,46 +1,38 @@
 -- A call's own work on a timer in a normal mode, beside the clock that hears of it.
-use Prim.Native.Nat.{ℕ, zero, suc, ◌+◌, ◌-◌, ◌*◌, ◌/◌, ◌%◌, ◌≤◌, ◌<◌, ◌^◌}
+use Prim.Native.Nat.{ℕ, ◌+◌, ◌-◌, ◌*◌, ◌%◌, ◌≤◌, ◌^◌}
 use native.Mathlib.Omega.{arith}
 use native.Mathlib.Nat.{add-zero, mod-mod}
 use mathlib.Core.Path.{◌≡◌, refl, sym, ap, ◌∙◌}
 use mathlib.Core.Bool.{Bool, true, false, cond, not, ◌&&◌, ◌||◌, beq, and-false, true≢false, false≢true}
-use mathlib.Core.List.{List, [], ◌∷◌}
-use mathlib.Core.Logic.{⊎_elim}
 use lib.Bits.{bit_and, and_mod, and_mask}
-use lib.Dec.{eqb, leb, ltb}
-use lib.ListN.{get_or}
+use lib.Dec.{eqb, leb}
 use borrow.Author.Tests.{eqb-true, eqb-false, ne_eqb, leb-true, lt-leb}
-use Rattle.records.specs.declared.Entry.{Entry}
 use Rattle.config.specs.declared.Config.{Config}
-use Rattle.config.specs.Config.{split, place_of, accepted}
+use Rattle.config.specs.Config.{split, accepted}
 use Rattle.time.specs.declared.clock.Clock.{Clock}
 use Rattle.time.specs.declared.halts.Halts.{Halts}
 use Rattle.time.specs.Halts.{holding, wakened, hold_to}
 use Rattle.time.specs.Units.{ticks_at}
 use Rattle.time.proofs.Clocks.{ticks-mono}
 use Rattle.wave.specs.declared.count.Counter.{Counter}
-use Rattle.tick.specs.Outputs.{bit}
 use Rattle.tick.proofs.Choices.{cond-case, cond-all}
 use Rattle.counter.specs.declared.state.Timer.{Timer}
 use Rattle.counter.specs.Capture.{capture, captured, ticks_on}
-use Rattle.counter.specs.Halts.{latest_to, halting, asleep_at, awake_at, reduced_to, prescaled_at, tsm_to, routed_to}
+use Rattle.counter.specs.Halts.{halting, asleep_at, awake_at, reduced_to, prescaled_at, tsm_to, routed_to}
 use Rattle.counter.specs.Logs.{Noted, silent, struck}
 use Rattle.counter.specs.Modes.{max_at, falling, rising, clock_at, divisor_at, chosen, divisor_of, prescaler_of, held_of, running_of, wave_of, mode_of}
 use Rattle.counter.specs.Parts.{flags_to}
 use Rattle.counter.specs.Passage.{Passed, sync_to}
-use Rattle.counter.specs.Registers.{temp_to, icr_to, compare_to, committed, read_timer, commit, stored, configured, driven_by, driven, stored_b, written_a, written_b, written}
+use Rattle.counter.specs.Registers.{temp_to, icr_to, compare_to, read_timer, commit, stored, configured, driven_by, driven, stored_b, written_a, written_b, written}
 use Rattle.counter.specs.Setting.{setting_of, setting_at, moving_of}
-use Rattle.counter.specs.Valid.{Valid}
 use Rattle.counter.proofs.Clocks.{running-divides}
-use Rattle.timer.specs.declared.calls.Call.{Call}
 use Rattle.timer.specs.declared.calls.Call.TheVariants as call
-use Rattle.timer.specs.Calls.{placed, is_pin, edge_captures, edge_ticks, output_captures, reduces, changes, prescales, asks, works}
-use Rattle.timer.specs.Claims.{sets_count}
+use Rattle.timer.specs.Calls.{is_pin, edge_captures, edge_ticks, reduces, changes, prescales}
 use Rattle.account.specs.Account.{Normal}
 use Rattle.account.specs.Watch.{Watch, prescaler, runs, made_at, goes_on, names, selects, halts, strikes, hears}
 use Rattle.account.proofs.Flags.{t-alone}
 use Rattle.account.proofs.Records.{raisers}
-use Rattle.account.proofs.Spans.{Spans, solo, normal-wave}
+use Rattle.account.proofs.Spans.{Spans, solo}
 use Rattle.account.proofs.Ticks.{Mute, driven-mute, flags-worth, tick-worth, tick-counted, wraps}
 
 -- ---- the clock stands as the timer's does, and has told the ticks up to a cycle that time has passed

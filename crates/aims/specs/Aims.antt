@@ -32,11 +32,11 @@ cast_of gtccr value =
 
 -- GTCCR's own aim, or a timer's call on TIFRn, TIMSKn or the register that stands there
 abbrev pub aim_at : Place → Aim → Call → Call → Call → Aim
-aim_at place.Gtccr gtccr tifr timsk register = gtccr
-aim_at (place.Tifr i) gtccr tifr timsk register = aim.Own i tifr
-aim_at (place.Timsk i) gtccr tifr timsk register = aim.Own i timsk
-aim_at (place.Register i) gtccr tifr timsk register = aim.Own i register
-aim_at place.Nowhere gtccr tifr timsk register = aim.Nowhere
+aim_at place.Gtccr gtccr flags masks register = gtccr
+aim_at (place.Tifr i) gtccr flags masks register = aim.Own i flags
+aim_at (place.Timsk i) gtccr flags masks register = aim.Own i masks
+aim_at (place.Register i) gtccr flags masks register = aim.Own i register
+aim_at place.Nowhere gtccr flags masks register = aim.Nowhere
 
 -- a read or a peek: of GTCCR it reaches no timer
 abbrev pub looked_at : Place → Call → Aim

@@ -56,6 +56,7 @@ fn stored(value: u8) -> u8
 }
 
 // Yields what a byte written to GTCCR casts: TSM where bit 7 changes, then the prescaler resets.
+#[tactic(auto, unfolding(crate::specs::Aims::cast_of))]
 fn casting(gtccr: u8, value: u8) -> Cast
     ensures { result ≡ cast_of gtccr value }
 {

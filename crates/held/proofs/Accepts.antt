@@ -3,7 +3,6 @@ use Prim.Native.Nat.{ℕ, ◌-◌, ◌^◌}
 use mathlib.Core.Path.{◌≡◌}
 use mathlib.Core.Bool.{Bool, true, false, ◌&&◌}
 use lib.Dec.{eqb, leb, ltb}
-use Rattle.time.specs.Units.{late_at}
 use Rattle.held.specs.declared.state.Held.{Held}
 use Rattle.held.specs.Quick.{refusing, accepted_in}
 use Rattle.held.proofs.Puts.{latest_in}

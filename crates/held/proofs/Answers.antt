@@ -3,12 +3,11 @@ use Prim.Native.Nat.{ℕ, ◌+◌, ◌-◌, ◌≤◌, ◌<◌, ◌^◌}
 use native.Mathlib.Omega.{arith}
 use native.Mathlib.Nat.{add-mul, mul-le-mul}
 use mathlib.Core.Path.{◌≡◌, refl, sym, ap, ◌∙◌}
-use mathlib.Core.Bool.{Bool, true, false, cond, not, ◌&&◌}
+use mathlib.Core.Bool.{Bool, true, false, cond}
 use mathlib.Core.List.{List, []}
 use lib.Bits.{bit_and}
 use lib.Dec.{eqb, leb, ltb}
 use borrow.Author.Tests.{eqb-true, eqb-false, ne_eqb, lt-leb, ltb-false}
-use Rattle.config.specs.Config.{place_of, pair_at}
 use Rattle.time.specs.Units.{ticks_at, cycle_at, late_at}
 use Rattle.time.proofs.Clocks.{tick-before}
 use Rattle.wave.specs.Distance.{gap}
@@ -17,7 +16,6 @@ use Rattle.tick.specs.Distance.{flags_ahead}
 use Rattle.tick.specs.Skip.{linear}
 use Rattle.tick.specs.Tick.{events_at}
 use Rattle.tick.proofs.Bounds.{gap-max}
-use Rattle.passage.specs.Passage.{ticks}
 use Rattle.counter.specs.declared.next.Next.TheVariants as next
 use Rattle.counter.specs.declared.state.Timer.{Timer}
 use Rattle.counter.specs.Halts.{latest_to}
@@ -30,18 +28,18 @@ use Rattle.counter.proofs.Bounds.{divisor-max, valid-sound}
 use Rattle.answers.specs.declared.Answer.{Answer}
 use Rattle.answers.specs.declared.Answer.TheVariants as answer
 use Rattle.answers.specs.declared.Outcome.{Outcome}
-use Rattle.answers.specs.Answers.{Told, Tells, event, turned, number_of, values_of}
+use Rattle.answers.specs.Answers.{Told, Tells, event, number_of, values_of}
 use Rattle.answers.specs.Refusals.{is_due, late, refusal}
 use Rattle.timer.specs.declared.calls.Call.{Call}
 use Rattle.timer.specs.declared.calls.Call.TheVariants as call
-use Rattle.timer.specs.Calls.{Asks, answered, asks, works, says, refusal_of}
+use Rattle.timer.specs.Calls.{asks, works, says, refusal_of}
 use Rattle.timer.proofs.Outcomes.{turned-away, at_once, plainly}
 use Rattle.held.specs.declared.state.Held.{Held}
 use Rattle.held.specs.declared.reply.Reply.{Reply}
 use Rattle.held.specs.Held.{Kept, code_of, flags_in, never}
-use Rattle.held.specs.Reply.{what_of, value_of, beside, replied, reply_of, Serves, Served}
+use Rattle.held.specs.Reply.{what_of, value_of, beside, replied, Serves, Served}
 use Rattle.held.specs.Quick.{refusing, answering, nexting}
-use Rattle.held.proofs.Puts.{timer_to, latest_in, tifr_in}
+use Rattle.held.proofs.Puts.{latest_in, tifr_in}
 
 -- the next event's cycle is no word's last
 next_small : (t : Timer) → Valid t → next_at t < 2 ^ 63

@@ -2,19 +2,17 @@
 use Prim.Native.Nat.{ℕ, zero, suc, ◌+◌, ◌-◌, ◌≤◌, ◌<◌, min}
 use native.Mathlib.Omega.{arith}
 use native.Mathlib.Numerals.{unary_clauses}
-use mathlib.Core.Path.{◌≡◌, refl, sym, ap, ◌∙◌}
+use mathlib.Core.Path.{◌≡◌, refl, ap, ◌∙◌}
 use mathlib.Core.Bool.{Bool, true, false, cond, ◌&&◌}
-use mathlib.Core.List.{List, []}
+use mathlib.Core.List.{[]}
 use lib.ListN.{get_or}
 use lib.Dec.{eqb, leb, eqb-suc-zero}
 use borrow.Author.Tests.{leb-true, leb-false, le-leb, lt-leb}
 use Rattle.wave.specs.declared.kinds.Wave.{Wave}
-use Rattle.wave.specs.declared.count.Counter.{Counter}
 use Rattle.wave.specs.Count.{falls, top_of}
-use Rattle.wave.specs.Distance.{space, ahead, gap_at, gap, moved, skipped}
+use Rattle.wave.specs.Distance.{space, ahead, gap_at, gap, moved}
 use Rattle.time.proofs.Clocks.{ticks-mono}
 use Rattle.time.specs.Units.{ticks_at, cycle_at}
-use Rattle.tick.proofs.Choices.{cond-case}
 use Rattle.tick.specs.Skip.{linear}
 use Rattle.tick.specs.Tick.{raised, events_of}
 use Rattle.passage.specs.Passage.{ticks, quiet}
@@ -22,7 +20,6 @@ use Rattle.passage.proofs.Runs.{quiet-ticks}
 use Rattle.counter.specs.declared.state.Timer.{Timer}
 use Rattle.counter.specs.Modes.{mode_of, wave_of, divisor_of, prescaler_of, held_of, running_of}
 use Rattle.counter.specs.Setting.{setting_at, setting_of, moving_of, settle}
-use Rattle.counter.specs.declared.next.Next.TheVariants.{At}
 use Rattle.counter.specs.Next.{next_at, next_of}
 use Rattle.tick.specs.Distance.{flags_ahead}
 use Rattle.tick.specs.declared.setting.Moving.{Moving}

@@ -1,5 +1,5 @@
 -- Time that passes below the next event: what its ticks ask of their numbers.
-use Prim.Native.Nat.{ℕ, ◌+◌, ◌-◌, ◌*◌, ◌/◌, ◌≤◌, ◌<◌, ◌^◌}
+use Prim.Native.Nat.{ℕ, ◌+◌, ◌/◌, ◌≤◌, ◌<◌, ◌^◌}
 use native.Mathlib.Omega.{arith}
 use native.Mathlib.Nat.{pow-le-pow_right, div-mul-le_self, le-div_iff_mul-le}
 use mathlib.Core.Bool.{Bool, true, false, cond}

@@ -7,30 +7,28 @@ use mathlib.Core.Bool.{Bool, true, false, cond, not, ◌&&◌}
 use mathlib.Core.List.{List, []}
 use lib.Dec.{eqb, leb, ltb, leb-zero}
 use lib.ListN.{length}
-use borrow.Author.Tests.{eq-eqb, eqb-true, eqb-false, leb-false, ltb-false, le-ltb, lt-leb, ne_eqb}
+use borrow.Author.Tests.{eq-eqb, leb-false, ltb-false, le-ltb, lt-leb, ne_eqb}
 use Rattle.config.specs.Config.{place_of, pair_at}
-use Rattle.time.specs.Units.{ticks_at, late_at}
+use Rattle.time.specs.Units.{ticks_at}
 use Rattle.wave.specs.Count.{falls}
-use Rattle.wave.specs.Distance.{moved}
 use Rattle.tick.specs.Skip.{linear}
 use Rattle.tick.proofs.Bounds.{gap-moves}
 use Rattle.passage.specs.Passage.{ticks, quiet}
 use Rattle.passage.proofs.Runs.{quiet-ticks}
 use Rattle.counter.specs.declared.state.Timer.{Timer}
-use Rattle.counter.specs.Modes.{mode_of, wave_of, divisor_of, prescaler_of, held_of, running_of, max_at}
-use Rattle.counter.specs.Setting.{setting_at, setting_of, moving_of, settle}
+use Rattle.counter.specs.Modes.{mode_of, wave_of, divisor_of, held_of, running_of, max_at}
+use Rattle.counter.specs.Setting.{setting_at, moving_of}
 use Rattle.counter.specs.Halts.{latest_to}
 use Rattle.counter.specs.Next.{next_at, next_of, next_flags}
-use Rattle.counter.specs.Parts.{clock_to}
-use Rattle.counter.specs.Passage.{Passed, due, start, sync_to, sync_of, passed, synced, advanced}
-use Rattle.counter.specs.Registers.{is_high, word_of, peeked, read_value, read_timer, temp_to}
+use Rattle.counter.specs.Passage.{Passed, due, start, sync_to, sync_of, passed, advanced}
+use Rattle.counter.specs.Registers.{word_of, peeked, read_value, read_timer, temp_to}
 use Rattle.counter.specs.Valid.{Valid}
 use Rattle.counter.proofs.Bounds.{valid-sound}
 use Rattle.counter.proofs.Clocks.{due-gap}
 use Rattle.counter.proofs.Lasting.{advance-keeps}
 use Rattle.counter.proofs.Runs.{start-kept}
 use Rattle.answers.specs.declared.Answer.TheVariants as answer
-use Rattle.answers.specs.Answers.{Told, Tells, byte, reached, given, turned}
+use Rattle.answers.specs.Answers.{byte, reached, given, turned}
 use Rattle.answers.specs.Refusals.{late, refusal}
 use Rattle.timer.specs.declared.calls.Call.{Call}
 use Rattle.timer.specs.declared.calls.Call.TheVariants as call
@@ -44,7 +42,7 @@ use Rattle.held.specs.Held.{Kept, code_of, flags_in}
 use Rattle.held.specs.Reply.{replied, Serves, Served, count_low, count_high}
 use Rattle.held.specs.Quick.{refusing, ticks_to, stilled, Passing, counting}
 use Rattle.held.proofs.Laws.{after, synced-quietly, next-of}
-use Rattle.held.proofs.Puts.{timer_to, counter_to, latest_in, temp_in, counter_in, clock_in}
+use Rattle.held.proofs.Puts.{latest_in, temp_in, counter_in, clock_in}
 use Rattle.held.proofs.Answers.{Timed, refusal_is, plain-serves, refused-serves, serves-of, kept-latest}
 
 -- a call in time that passes no event

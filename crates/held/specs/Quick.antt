@@ -1,5 +1,5 @@
 -- What the calls of a busy bench make of the parts that they need.
-use Rattle.std.specs.Prelude.{ℕ, ◌+◌, ◌-◌, ◌/◌, ◌%◌, ◌≤◌, ◌<◌, ◌^◌, Bool, true, false, cond, not, ◌&&◌, ◌≡◌, eqb, leb}
+use Rattle.std.specs.Prelude.{ℕ, ◌+◌, ◌-◌, ◌/◌, ◌%◌, ◌≤◌, ◌<◌, ◌^◌, Bool, true, cond, not, ◌&&◌, eqb, leb}
 use Rattle.time.specs.declared.clock.Clock.{Clock}
 use Rattle.time.specs.Clock.{clock_at}
 use Rattle.time.specs.Units.{late_at}

@@ -1,31 +1,24 @@
 -- What calls leave of the next event: its cycle and its flags, where they do not touch it.
-use Prim.Native.Nat.{ℕ, ◌+◌, ◌-◌, ◌≤◌, ◌<◌, ◌%◌, max, ◌^◌}
+use Prim.Native.Nat.{ℕ, ◌+◌, ◌-◌, ◌≤◌, ◌<◌, max}
 use native.Mathlib.Omega.{arith}
 use native.Mathlib.Nat.{add-mul, le-div_iff_mul-le, div-lt_iff_lt-mul}
-use mathlib.Core.Path.{◌≡◌, refl, sym, ap, ◌∙◌}
-use mathlib.Core.Bool.{Bool, true, false, cond, not, ◌&&◌, ◌||◌, and-true, and-false, true≢false}
-use mathlib.Core.List.{List}
-use lib.Dec.{eqb, leb, leb-zero}
-use lib.ListN.{get_or, length}
-use borrow.Author.Tests.{leb-true, leb-false, ne_eqb, eqb-true}
-use Rattle.wave.specs.declared.count.Counter.{Counter}
+use mathlib.Core.Path.{◌≡◌, refl, ap, ◌∙◌}
+use mathlib.Core.Bool.{Bool, true, false}
+use lib.Dec.{leb, leb-zero}
+use borrow.Author.Tests.{leb-true, leb-false}
 use Rattle.wave.specs.declared.kinds.Wave.{Wave}
-use Rattle.wave.specs.Kinds.{X, A, I}
-use Rattle.wave.specs.Count.{falls, top_of}
-use Rattle.wave.specs.Distance.{space, gap_at, gap}
+use Rattle.wave.specs.Distance.{gap}
 use Rattle.time.specs.declared.units.Prescaler.{Prescaler}
 use Rattle.time.specs.Units.{ticks_at, cycle_at}
 use Rattle.time.proofs.Clocks.{ticks-mono, cycle-mono}
 use Rattle.tick.specs.declared.setting.Moving.{Moving}
-use Rattle.tick.specs.declared.setting.Setting.{Setting}
 use Rattle.tick.specs.Distance.{flags_ahead}
 use Rattle.tick.specs.Skip.{linear}
-use Rattle.tick.specs.Tick.{events_at, raised}
-use Rattle.tick.proofs.Choices.{and_left, cond-case, cond-all}
-use Rattle.passage.specs.Passage.{Run, ticks, quiet, gap_in}
+use Rattle.tick.proofs.Choices.{cond-case}
+use Rattle.passage.specs.Passage.{Run, ticks, quiet}
 use Rattle.passage.proofs.Runs.{quiet-ticks}
 use Rattle.counter.specs.declared.state.Timer.{Timer}
-use Rattle.counter.specs.Modes.{narrow_sources, wide_sources, source_at, divisor_at, mode_of, wave_of, divisor_of, prescaler_of, held_of, running_of}
+use Rattle.counter.specs.Modes.{mode_of, wave_of, divisor_of, prescaler_of, held_of, running_of}
 use Rattle.counter.specs.Next.{next_at}
 use Rattle.counter.specs.Passage.{due, start, sync_to, sync_of, passed, synced, advanced}
 use Rattle.counter.specs.Setting.{setting_at, setting_of, moving_of, settle}

@@ -2,7 +2,7 @@
 use Prim.Native.Nat.{ℕ, ◌+◌, ◌≤◌, ◌<◌, ◌/◌, ◌%◌}
 use native.Mathlib.Omega.{arith}
 use mathlib.Core.Path.{◌≡◌, refl, sym, ◌∙◌}
-use mathlib.Core.Bool.{Bool, true, false, cond, not, ◌&&◌, ◌||◌, and-true, and-false, true≢false, false≢true}
+use mathlib.Core.Bool.{Bool, true, false, cond, not, ◌&&◌, ◌||◌, and-false, true≢false, false≢true}
 use mathlib.Core.List.{List}
 use lib.Dec.{eqb, leb, ltb}
 use lib.ListN.{get_or}
@@ -19,7 +19,7 @@ use Rattle.tick.specs.Tick.{events_at, raised}
 use Rattle.tick.proofs.Choices.{and_left, cond-case, cond-all}
 use Rattle.counter.specs.declared.state.Timer.{Timer}
 use Rattle.counter.specs.Capture.{captures, captured, ticks_on}
-use Rattle.counter.specs.Halts.{latest_to, halting, asleep_at, awake_at, routed_to}
+use Rattle.counter.specs.Halts.{latest_to, routed_to}
 use Rattle.counter.specs.Logs.{Noted}
 use Rattle.counter.specs.Modes.{falling, rising, source_at, clock_at, divisor_at, chosen, mode_of, wave_of, divisor_of, prescaler_of, held_of, running_of}
 use Rattle.counter.specs.Next.{next_at}
@@ -28,7 +28,7 @@ use Rattle.counter.specs.Registers.{read_timer}
 use Rattle.counter.specs.Setting.{setting_at, setting_of, moving_of}
 use Rattle.timer.specs.declared.calls.Call.{Call}
 use Rattle.timer.specs.declared.calls.Call.TheVariants as call
-use Rattle.timer.specs.Calls.{placed, is_pin, edge_captures, edge_ticks, output_captures, works, asks}
+use Rattle.timer.specs.Calls.{placed, is_pin, edge_captures, edge_ticks, output_captures, works}
 use Rattle.timer.proofs.Outcomes.{reducing, changing, prescaling, stays}
 use Rattle.outlook.specs.Announced.{touches}
 use Rattle.outlook.proofs.Same.{Same}

@@ -1,50 +1,28 @@
 -- A call of what is kept of a timer: its refusal, the time that passes before it, and what it works where it leaves what is kept.
-use Prim.Native.Nat.{ℕ, ◌-◌, ◌<◌, ◌≤◌}
+use Prim.Native.Nat.{ℕ}
 use native.Mathlib.Omega.{arith}
-use mathlib.Core.Path.{◌≡◌, refl, sym, ap, subst, ◌∙◌}
-use mathlib.Core.Bool.{Bool, true, false, cond, not, ◌&&◌, ◌||◌, true≢false, beq}
-use mathlib.Core.List.{List, []}
-use lib.Bits.{bit_and}
-use lib.Dec.{eqb, leb, ltb}
-use borrow.Author.Tests.{eqb-true, eqb-false, not-true}
-use Rattle.time.specs.Halts.{route_to}
+use mathlib.Core.Path.{◌≡◌, refl, sym, ap, ◌∙◌}
+use mathlib.Core.Bool.{Bool, true, false, cond, not, ◌&&◌, ◌||◌, true≢false}
+use mathlib.Core.List.{List}
+use lib.Dec.{eqb, leb}
+use borrow.Author.Tests.{eqb-true, eqb-false}
 use Rattle.time.specs.Units.{late_at}
-use Rattle.tick.proofs.Choices.{and_left}
-use Rattle.tick.specs.Distance.{flags_ahead}
-use Rattle.tick.specs.Skip.{linear}
-use Rattle.tick.specs.Tick.{events_at, raised}
-use Rattle.scene.specs.declared.state.Scene.{Scene}
-use Rattle.scene.specs.Scene.{scene_of}
-use Rattle.wave.specs.Count.{falls}
 use Rattle.counter.specs.declared.state.Timer.{Timer}
-use Rattle.counter.specs.Halts.{latest_to, reduced_to}
-use Rattle.counter.specs.Logs.{Noted, silent}
-use Rattle.counter.specs.Modes.{mode_of, wave_of, divisor_of, held_of, running_of}
-use Rattle.counter.specs.Next.{next_at, next_of}
 use Rattle.counter.specs.Registers.{is_high, immediate}
-use Rattle.counter.specs.Setting.{setting_at, setting_of}
-use Rattle.counter.specs.Valid.{Valid}
-use Rattle.answers.specs.declared.Answer.{Answer}
-use Rattle.answers.specs.declared.Answer.TheVariants as answer
-use Rattle.answers.specs.Answers.{byte, event, none, number_of, values_of}
-use Rattle.answers.specs.Refusals.{is_due, late, refusal}
+use Rattle.answers.specs.Refusals.{late, refusal}
 use Rattle.timer.specs.declared.calls.Call.{Call}
 use Rattle.timer.specs.declared.calls.Call.TheVariants as call
-use Rattle.timer.specs.Calls.{placed, edge_ticks, reduces, asks, works, says, refusal_of}
-use Rattle.timer.proofs.Outcomes.{Ready, at_once, plainly, sleeping, reducing, changing, prescaling, stays}
+use Rattle.timer.specs.Calls.{placed, asks, refusal_of}
+use Rattle.timer.proofs.Outcomes.{Ready, at_once}
 use Rattle.held.specs.declared.state.Held.{Held}
-use Rattle.held.specs.declared.reply.Reply.{Reply}
-use Rattle.held.specs.Held.{Kept, code_of, flags_in, never}
-use Rattle.held.specs.Quick.{refusing, stilled, Passing}
-use Rattle.held.specs.Reply.{what_of, value_of, beside, replied, Served}
-use Rattle.held.proofs.Answers.{due-is, late-low, event-what, event-value, turned-serves, told-serves}
+use Rattle.held.specs.Held.{Kept}
+use Rattle.held.specs.Quick.{refusing, Passing}
+use Rattle.held.proofs.Answers.{due-is, late-low}
 use Rattle.held.proofs.Puts.{timer_to}
 use Rattle.held.proofs.Stills.{quiet-in, still-asks, stored-kept, stored-ready}
 use Rattle.serving.specs.declared.asks.Asks.{Asks}
-use Rattle.serving.specs.declared.looking.Looked.{Looked}
-use Rattle.serving.specs.declared.looking.Work.{Work}
 use Rattle.serving.specs.Asks.{asks_in}
-use Rattle.serving.specs.Looking.{refused_by, stilled_in, passed_of, stays_of, work_of, timsk_to, looked_in}
+use Rattle.serving.specs.Looking.{refused_by, stilled_in, passed_of, stays_of}
 
 -- ---- refusals
 pub refused-is : (h : Held) (c : Call) (cycle : ℕ) → Kept h → refused_by (asks_in (asks h.timer c)) h.timer.clock.latest.0 h.next cycle ≡ refusal_of h.timer c cycle

@@ -1,8 +1,8 @@
 -- What a call works and yields where it leaves what is kept.
 use Prim.Native.Nat.{ℕ, ◌/◌, ◌%◌}
-use mathlib.Core.Path.{◌≡◌, refl, sym, ap, subst, ◌∙◌}
+use mathlib.Core.Path.{◌≡◌, refl, sym, ap}
 use mathlib.Core.Bool.{Bool, true, false, cond, not, ◌&&◌, ◌||◌, true≢false}
-use mathlib.Core.List.{List, []}
+use mathlib.Core.List.{[]}
 use lib.Dec.{eqb}
 use borrow.Author.Tests.{not-true, eqb-true}
 use Rattle.time.specs.Halts.{route_to}
@@ -15,11 +15,11 @@ use Rattle.counter.specs.Registers.{temp_to, read_timer, word_of}
 use Rattle.counter.specs.Valid.{Valid}
 use Rattle.answers.specs.declared.Answer.{Answer}
 use Rattle.answers.specs.declared.Answer.TheVariants as answer
-use Rattle.answers.specs.Answers.{Values, event, number_of, values_of}
+use Rattle.answers.specs.Answers.{event, number_of, values_of}
 use Rattle.timer.specs.declared.calls.Call.{Call}
 use Rattle.timer.specs.declared.calls.Call.TheVariants as call
 use Rattle.timer.specs.Calls.{placed, edge_captures, edge_ticks, output_captures, asks, works, says}
-use Rattle.timer.proofs.Outcomes.{Turning, Kept, sleeping, reducing, changing, prescaling, wakes-not}
+use Rattle.timer.proofs.Outcomes.{Turning, sleeping, reducing, changing, prescaling, wakes-not}
 use Rattle.held.specs.Held.{code_of, never}
 use Rattle.held.specs.Reply.{what_of, value_of, beside}
 use Rattle.held.proofs.Answers.{event-what, event-value}

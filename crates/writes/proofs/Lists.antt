@@ -20,7 +20,7 @@ use Rattle.items.specs.declared.Item.{Item}
 use Rattle.writes.specs.declared.Why.{Why}
 use Rattle.writes.specs.declared.Why.TheVariants as why
 use Rattle.items.specs.Items.{item_in, items_in}
-use Rattle.writes.specs.Writes.{stopping, behind, worked, Listed, after, listed, listing, why_of, reason_of, Lists}
+use Rattle.writes.specs.Writes.{stopping, worked, Listed, after, listed, listing, why_of, reason_of, Lists}
 use Rattle.writes.proofs.Rests.{left, back, left_is, back_is, back_long, stop-told, put-behind, worked-within, inside_both}
 
 -- ---- behind what is done

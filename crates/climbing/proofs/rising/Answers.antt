@@ -5,7 +5,6 @@ use borrow.Author.Tests.{lt-leb}
 use Rattle.std.proofs.Common.{le-leb}
 use native.Mathlib.Omega.{arith}
 use Rattle.climbing.proofs.Rises.{asked, start-asked, rising-asked, rose, shl-under, event-positive, end-under, end-origin, left-upto, left-small, ticks-on, rising-serves}
-use borrow.Author.Rules.{rules}
 use Rattle.climbing.proofs.rising.Goals as goal
 use Rattle.climbing.proofs.rising.Goals.{then-paused, else-paused, then-paused-2, else-paused-2}
 

@@ -1,4 +1,3 @@
-use borrow.Author.Rules.{rules}
 use Rattle.climbing.proofs.start.Goals as goal
 
 pub overflow_shr-result : goal.overflow_shr-result

@@ -1,4 +1,3 @@
-use borrow.Author.Rules.{rules}
 use Rattle.climbing.specs.Rise.{strikes_of}
 use Rattle.climbing.proofs.strikes.Goals as goal
 

@@ -1,4 +1,3 @@
-use borrow.Author.Rules.{rules}
 use Rattle.shift.specs.Shift.{far_of}
 use Rattle.shift.proofs.far.Goals as goal
 

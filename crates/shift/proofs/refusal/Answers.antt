@@ -1,4 +1,3 @@
-use borrow.Author.Rules.{rules}
 use Rattle.shift.specs.Shift.{refusal_of}
 use Rattle.shift.proofs.refusal.Goals as goal
 

@@ -1,4 +1,3 @@
-use borrow.Author.Rules.{rules}
 use Rattle.shift.proofs.Signs.{up_is, down_fits, down-back}
 use Rattle.shift.proofs.signed.Goals as goal
 

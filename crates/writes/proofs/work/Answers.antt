@@ -1,7 +1,5 @@
-use Prim.Native.Nat.{ℕ}
 use Rattle.writes.proofs.Rests.{answered-within, inside, inside_both, stopped, both}
 use native.Mathlib.Omega.{arith}
-use borrow.Author.Rules.{rules}
 use Rattle.writes.proofs.work.Goals as goal
 
 pub returns-then-stops : goal.returns-then-stops

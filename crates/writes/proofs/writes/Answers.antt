@@ -1,9 +1,6 @@
-use Rattle.writes.proofs.Lists.{Going, count, begins, goes_on, uneven, stops-there, all_done}
-use Rattle.writes.proofs.Rests.{back_long, worked-within, inside_both}
-use mathlib.Core.Path.{◌∙◌}
-use borrow.Author.Rules.{rules}
+use Rattle.writes.proofs.Lists.{begins, goes_on, uneven, stops-there, all_done}
+use Rattle.writes.proofs.Rests.{worked-within, inside_both}
 use native.Mathlib.Omega.{arith}
-use Prim.Native.Nat.{◌-◌}
 use Rattle.writes.proofs.writes.Goals as goal
 
 pub returns-then-list-ne0 : goal.returns-then-list-ne0

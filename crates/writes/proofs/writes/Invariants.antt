@@ -1,8 +1,4 @@
-use Rattle.writes.proofs.Lists.{Going, count, begins, goes_on, uneven, stops-there, all_done}
-use Rattle.writes.proofs.Rests.{back_long, worked-within, inside_both}
-use mathlib.Core.Path.{◌∙◌}
-use borrow.Author.Rules.{rules}
-use native.Mathlib.Omega.{arith}
+use Rattle.writes.proofs.Lists.{Going, count}
 use Prim.Native.Nat.{◌-◌}
 use Rattle.writes.proofs.writes.Given as goal
 

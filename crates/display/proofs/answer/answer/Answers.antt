@@ -3,7 +3,6 @@ use Rattle.display.proofs.Tellings.{after-refused, after-accepted}
 use Rattle.display.specs.Answers.{left_by}
 use Rattle.figures.specs.Figures.{codes}
 use Rattle.page.proofs.Sheets.{then, put-none}
-use borrow.Author.Rules.{rules}
 use Rattle.display.proofs.answer.answer.Goals as goal
 
 pub returns-in-Refused : goal.returns-in-Refused

@@ -1,12 +1,11 @@
 -- `display::answer::bytes` meets its contract. The loop's invariant: the bytes passed are put, and no more than were written.
-use Rattle.page.specs.Page.{Puts}
 use Rattle.display.proofs.Hexes.{hexes-more, bytes-all}
 use lib.Seq.{take_all}
-use lib.ListN.{length, take}
+use lib.ListN.{take}
 use borrow.Author.Tests.{eq-eqb}
 use mathlib.Core.Path.{◌≡◌, sym, ap, ◌∙◌}
 use native.Mathlib.Omega.{arith}
-use Prim.Native.Nat.{ℕ, ◌≤◌, ◌-◌}
+use Prim.Native.Nat.{ℕ}
 use Rattle.display.specs.Answers.{bytes_of, hexes}
 use Rattle.figures.specs.Figures.{codes}
 use Rattle.page.proofs.Sheets.{then, put-none}

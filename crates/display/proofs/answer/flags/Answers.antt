@@ -2,7 +2,6 @@
 use Rattle.display.specs.Answers.{flags_of}
 use Rattle.figures.specs.Figures.{codes}
 use Rattle.page.proofs.Sheets.{then}
-use borrow.Author.Rules.{rules}
 use Rattle.display.proofs.answer.flags.Goals as goal
 
 pub returns-in-At : goal.returns-in-At

@@ -2,7 +2,6 @@
 use Rattle.display.proofs.Tellings.{said_plain}
 use Rattle.display.specs.Answers.{said_of}
 use Rattle.figures.specs.Figures.{codes}
-use borrow.Author.Rules.{rules}
 use Rattle.display.proofs.answer.said.Goals as goal
 
 pub returns-in-Refused : goal.returns-in-Refused

@@ -2,7 +2,6 @@
 use Rattle.display.specs.States.{compared_of}
 use Rattle.figures.specs.Figures.{codes}
 use Rattle.page.proofs.Sheets.{then}
-use borrow.Author.Rules.{rules}
 use Rattle.display.proofs.state.compared.Goals as goal
 
 pub returns-then-c : goal.returns-then-c

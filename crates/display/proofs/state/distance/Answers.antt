@@ -5,7 +5,6 @@ use mathlib.Core.Path.{subst}
 use Rattle.display.specs.States.{distance_line}
 use Rattle.figures.specs.Figures.{codes}
 use Rattle.page.proofs.Sheets.{then}
-use borrow.Author.Rules.{rules}
 use Rattle.display.proofs.state.distance.Goals as goal
 
 pub returns : goal.returns

@@ -2,7 +2,6 @@
 use Rattle.display.specs.States.{halts_of}
 use Rattle.figures.specs.Figures.{codes}
 use Rattle.page.proofs.Sheets.{then}
-use borrow.Author.Rules.{rules}
 use Rattle.display.proofs.state.halts.Goals as goal
 
 pub returns : goal.returns

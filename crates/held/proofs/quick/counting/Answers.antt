@@ -1,4 +1,3 @@
-use borrow.Author.Rules.{rules}
 use Rattle.held.specs.Quick.{counting}
 use Rattle.held.proofs.quick.counting.Goals as goal
 

@@ -1,4 +1,3 @@
-use borrow.Author.Rules.{rules}
 use borrow.Author.Tests.{ne_eqb}
 use Rattle.held.specs.Quick.{nexting}
 use Rattle.held.proofs.quick.nexting.Goals as goal

@@ -1,4 +1,3 @@
-use borrow.Author.Rules.{rules}
 use borrow.Author.Tests.{ne_eqb}
 use Rattle.held.specs.Quick.{refusing}
 use Rattle.held.proofs.quick.refusing.Goals as goal

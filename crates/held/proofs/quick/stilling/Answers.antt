@@ -1,6 +1,4 @@
-use Prim.Native.Nat.{◌-◌, ◌≤◌}
 use native.Mathlib.Omega.{arith}
-use borrow.Author.Rules.{rules}
 use Rattle.wave.proofs.Signs.{turn-back}
 use Rattle.held.specs.Quick.{ticks_to, stilled}
 use Rattle.held.proofs.Passes.{ticks-fit, div_mono}

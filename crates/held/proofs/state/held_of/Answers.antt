@@ -1,5 +1,4 @@
 use mathlib.Core.Path.{refl}
-use borrow.Author.Rules.{rules}
 use Rattle.held.proofs.state.held_of.Goals as goal
 
 pub wave_at-wave-requires : goal.wave_at-wave-requires

@@ -1,4 +1,3 @@
-use borrow.Author.Rules.{rules}
 use Rattle.held.specs.Write.{buffered}
 use Rattle.held.proofs.Stills.{quiet-in, still-asks}
 use Rattle.held.proofs.write.buffering.Goals as goal

@@ -2,7 +2,6 @@ use Prim.Native.Nat.{ℕ, ◌+◌, ◌≤◌, ◌<◌}
 use native.Mathlib.Omega.{arith}
 use borrow.Author.Tests.{lt-ltb, le-ltb, ne_eqb}
 use Rattle.held.specs.Write.{way_at}
-use borrow.Author.Rules.{rules}
 use Rattle.held.proofs.write.way_of.Goals as goal
 
 small : (n : ℕ) → n ≤ 12 → 16 + n < 256

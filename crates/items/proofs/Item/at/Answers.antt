@@ -1,6 +1,4 @@
 use Rattle.items.proofs.Bytes.{item-at}
-use native.Mathlib.Omega.{arith}
-use borrow.Author.Rules.{rules}
 use Rattle.items.proofs.Item.at.Goals as goal
 
 pub returns : goal.returns

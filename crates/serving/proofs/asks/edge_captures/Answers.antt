@@ -2,7 +2,6 @@ use mathlib.Core.Bool.{Bool, true, false, not, ◌&&◌, true≢false}
 use mathlib.Core.Path.{◌≡◌, refl, sym, ap, ◌∙◌}
 use Rattle.counter.specs.Capture.{captures}
 use Rattle.timer.specs.Calls.{is_pin, edge_captures}
-use borrow.Author.Rules.{rules}
 use Rattle.serving.proofs.asks.edge_captures.Goals as goal
 
 -- a third test is asked where the first two hold

@@ -1,6 +1,5 @@
 use mathlib.Core.Path.{sym, ◌∙◌}
 use Rattle.timer.specs.Calls.{edge_ticks}
-use borrow.Author.Rules.{rules}
 use Rattle.serving.proofs.asks.edge_ticks.Goals as goal
 
 pub returns-then-is_pin : goal.returns-then-is_pin

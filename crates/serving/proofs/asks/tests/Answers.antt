@@ -1,6 +1,5 @@
 use mathlib.Core.Path.{refl}
 use Rattle.timer.specs.Calls.{asks, output_captures}
-use borrow.Author.Rules.{rules}
 use Rattle.serving.proofs.asks.tests.Goals as goal
 
 pub returns-in-Advance : goal.returns-in-Advance

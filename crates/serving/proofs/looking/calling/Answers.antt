@@ -1,7 +1,6 @@
 use mathlib.Core.Path.{sym, ◌∙◌}
 use Rattle.serving.proofs.Laws.{number_is, stays-is, passed-asks}
 use Rattle.serving.proofs.Looks.{refused-looks, done-looks, left-looks}
-use borrow.Author.Rules.{rules}
 use Rattle.serving.proofs.looking.calling.Goals as goal
 
 pub returns-then-n-ne0 : goal.returns-then-n-ne0

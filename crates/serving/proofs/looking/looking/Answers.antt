@@ -1,6 +1,5 @@
 use mathlib.Core.Path.{sym, ◌∙◌}
 use Rattle.serving.proofs.Looks.{known-looks, unknown-looks}
-use borrow.Author.Rules.{rules}
 use Rattle.serving.proofs.looking.looking.Goals as goal
 
 pub returns-in-Known : goal.returns-in-Known

@@ -1,6 +1,5 @@
 use mathlib.Core.Path.{refl}
 use borrow.Author.Tests.{eq-eqb, ne_eqb}
-use borrow.Author.Rules.{rules}
 use Rattle.serving.proofs.looking.nexts.Goals as goal
 
 pub returns-then-next-eq-NEVER : goal.returns-then-next-eq-NEVER

@@ -1,6 +1,5 @@
 use mathlib.Core.Path.{refl}
 use Rattle.serving.specs.Looking.{passed_of}
-use borrow.Author.Rules.{rules}
 use Rattle.serving.proofs.looking.passed.Goals as goal
 
 pub stilling-s-requires : goal.stilling-s-requires

@@ -1,7 +1,6 @@
 use mathlib.Core.Path.{refl}
 use Rattle.counter.specs.Registers.{read_value, read_timer}
 use Rattle.serving.proofs.Works.{fills-low}
-use borrow.Author.Rules.{rules}
 use Rattle.serving.proofs.looking.reads.Goals as goal
 
 pub returns-then-place : goal.returns-then-place

@@ -1,6 +1,5 @@
-use borrow.Author.Tests.{ne_eqb, eq-eqb}
+use borrow.Author.Tests.{ne_eqb}
 use Rattle.serving.specs.Looking.{refused_by}
-use borrow.Author.Rules.{rules}
 use Rattle.serving.proofs.looking.refusal.Goals as goal
 
 pub returns-then-n-ne0 : goal.returns-then-n-ne0

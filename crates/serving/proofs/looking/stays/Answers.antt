@@ -1,6 +1,5 @@
 use mathlib.Core.Path.{refl}
 use Rattle.serving.specs.Looking.{stays_of}
-use borrow.Author.Rules.{rules}
 use Rattle.serving.proofs.looking.stays.Goals as goal
 
 pub returns-in-Advance : goal.returns-in-Advance
