@@ -1,8 +1,7 @@
 -- A choice is what both of its sides are.
-use Prim.Native.Nat.{ℕ, ◌-◌, ◌≤◌}
+use Prim.Native.Nat.{ℕ, ◌≤◌}
 use mathlib.Core.Path.{◌≡◌, refl}
 use mathlib.Core.Bool.{Bool, true, false, cond, ◌&&◌}
-use Rattle.wave.specs.Kinds.{A}
 
 -- ---- tests and choices
 pub and_left : (a b : Bool) → a && b ≡ true → a ≡ true

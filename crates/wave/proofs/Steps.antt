@@ -1,5 +1,5 @@
 -- What a step asks of its numbers.
-use Rattle.std.proofs.Common.{◌≡◌, ℕ, ◌-◌, ◌<◌, Bool, true, false, ◌&&◌, eqb, leb, ◌⊎◌, ℤ, pos, negsuc, sym, refl, ◌∙◌, inl, inr, true≢false, w32, to_z, of_z, eqb-true}
+use Rattle.std.proofs.Common.{◌≡◌, ℕ, ◌<◌, Bool, true, false, ◌&&◌, eqb, leb, ◌⊎◌, ℤ, pos, negsuc, sym, refl, ◌∙◌, inl, inr, true≢false, w32, to_z, of_z, eqb-true}
 use mathlib.Core.Bool.{false≢true}
 use Rattle.wave.specs.declared.kinds.Wave.{Wave}
 use Rattle.wave.specs.declared.count.Counter.{Counter}

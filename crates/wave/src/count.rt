@@ -100,6 +100,7 @@ impl Wave {
     }
 
     // The count after a tick.
+    #[tactic(auto, unfolding(crate::specs::Count::next_count))]
     pub fn next_count(self, counter: Counter, top: u32) -> u32
         requires { (counter.count ≤ self.max) × (self.max < 65536) × Turns counter.direction }
         ensures { result ≡ next_count self counter top }

@@ -1,4 +1,3 @@
-use borrow.Author.Rules.{rules}
 use Rattle.tick.specs.Tick.{line}
 use Rattle.tick.proofs.flags.line.Goals as goal
 

@@ -1,5 +1,4 @@
 use native.Mathlib.Omega.{arith}
-use borrow.Author.Rules.{rules}
 use Rattle.tick.proofs.Ticks.{also-most, flags-none, flags-put}
 use Rattle.tick.proofs.flags.put_flags.Goals as goal
 

@@ -1,5 +1,4 @@
 use mathlib.Core.Path.{refl}
-use borrow.Author.Rules.{rules}
 use Rattle.tick.specs.Tick.{trigger_entry}
 use Rattle.tick.proofs.flags.trigger_entry.Goals as goal
 

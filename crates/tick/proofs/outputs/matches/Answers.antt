@@ -1,5 +1,4 @@
 use native.Mathlib.Omega.{arith}
-use borrow.Author.Rules.{rules}
 use Rattle.tick.proofs.Writes.{matches-wrote}
 use Rattle.tick.proofs.outputs.matches.Goals as goal
 

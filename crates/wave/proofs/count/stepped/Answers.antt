@@ -1,4 +1,3 @@
-use Rattle.std.proofs.Common.{rules}
 use Rattle.wave.proofs.Signs.{sum_fits, sum-cast, sum-value}
 use Rattle.wave.proofs.count.stepped.Goals as goal
 

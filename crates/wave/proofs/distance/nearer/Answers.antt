@@ -10,5 +10,6 @@ returns c =
     let p = c.requires in
     c.smaller.ensures
     ∙ elim c.if-down.branch [
-      then-down w ↦ let v = w.wrapping_sub_u32-way in let l : v.result < 4294967296 = search rules in rw (w.if-down.true, w.way'-is) (nearer-falling x.count x.compare v.result x.gap f.count.fits f.compare.fits l v.ensures.value (rw w.if-down.true at p))
-    | else-down w ↦ let v = w.wrapping_sub_u32-way-else-down in let l : v.result < 4294967296 = search rules in rw (w.if-down.false, w.way'-is) (nearer-rising x.count x.compare v.result x.gap f.count.fits f.compare.fits l v.ensures.value (rw w.if-down.false at p)) ]
+      | then-down w ↦ let v = w.wrapping_sub_u32-way in let l : v.result < 4294967296 = search rules in rw (w.if-down.true, w.way'-is) (nearer-falling x.count x.compare v.result x.gap f.count.fits f.compare.fits l v.ensures.value (rw w.if-down.true at p))
+      | else-down w ↦ let v = w.wrapping_sub_u32-way-else-down in let l : v.result < 4294967296 = search rules in rw (w.if-down.false, w.way'-is) (nearer-rising x.count x.compare v.result x.gap f.count.fits f.compare.fits l v.ensures.value (rw w.if-down.false at p))
+    ]

@@ -1,4 +1,3 @@
-use borrow.Author.Rules.{rules}
 use Rattle.tick.specs.Outputs.{acted}
 use Rattle.tick.proofs.outputs.Outputs.act.Goals as goal
 

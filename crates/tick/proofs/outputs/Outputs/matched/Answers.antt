@@ -1,5 +1,4 @@
 use native.Mathlib.Omega.{arith}
-use borrow.Author.Rules.{rules}
 use Rattle.tick.specs.Outputs.{matched}
 use Rattle.tick.proofs.Writes.{wrote_none}
 use Rattle.tick.proofs.outputs.Outputs.matched.Goals as goal

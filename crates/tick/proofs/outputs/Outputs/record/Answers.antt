@@ -1,5 +1,4 @@
 use native.Mathlib.Omega.{arith}
-use borrow.Author.Rules.{rules}
 use Rattle.tick.proofs.Writes.{wrote-same, wrote-new}
 use Rattle.tick.proofs.outputs.Outputs.record.Goals as goal
 

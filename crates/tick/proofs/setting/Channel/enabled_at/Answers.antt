@@ -1,4 +1,3 @@
-use borrow.Author.Rules.{rules}
 use borrow.Author.Tests.{ne_eqb}
 use Rattle.tick.specs.Setting.{enabled_at}
 use Rattle.tick.proofs.setting.Channel.enabled_at.Goals as goal

@@ -1,5 +1,4 @@
 use native.Mathlib.Omega.{arith}
-use borrow.Author.Rules.{rules}
 use borrow.Author.Tests.{ne_eqb, le-leb, lt-leb}
 use Rattle.tick.specs.Outputs.{level_of}
 use Rattle.tick.proofs.setting.Channel.level.Goals as goal

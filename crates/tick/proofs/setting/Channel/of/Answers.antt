@@ -1,4 +1,3 @@
-use borrow.Author.Rules.{rules}
 use Rattle.tick.specs.Setting.{channel_of}
 use Rattle.tick.proofs.setting.Channel.of.Goals as goal
 

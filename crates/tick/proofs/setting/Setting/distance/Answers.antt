@@ -2,7 +2,6 @@ use native.Mathlib.Omega.{arith}
 use Rattle.tick.specs.Distance.{flags_ahead}
 use Rattle.tick.specs.Skip.{linear}
 use Rattle.tick.proofs.Bounds.{gap-max}
-use borrow.Author.Rules.{rules}
 use Rattle.tick.proofs.setting.Setting.distance.Goals as goal
 
 pub skip-near-requires : goal.skip-near-requires

@@ -1,6 +1,5 @@
 use Rattle.tick.proofs.Writes.{wrote_then, strobed-appends}
 use native.Mathlib.Omega.{arith}
-use borrow.Author.Rules.{rules}
 use Rattle.tick.proofs.setting.Setting.drive.Goals as goal
 
 pub returns-then-again : goal.returns-then-again

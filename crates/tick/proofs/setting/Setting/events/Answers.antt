@@ -1,5 +1,3 @@
-use mir.Syntax.{w32}
-use mir.Val.{SFits}
 use borrow.Author.Rules.{rules}
 use Rattle.wave.specs.Count.{at_top, at_zero, rising}
 use Rattle.tick.specs.Tick.{events_at}

@@ -1,4 +1,3 @@
-use borrow.Author.Rules.{rules}
 use Rattle.tick.specs.Tick.{flag_entry}
 use Rattle.tick.proofs.setting.Setting.flag_entry.Goals as goal
 

@@ -1,4 +1,3 @@
-use borrow.Author.Rules.{rules}
 use Rattle.tick.specs.Tick.{line, lines}
 use Rattle.tick.proofs.setting.Setting.lines.Goals as goal
 

@@ -1,5 +1,4 @@
 use mathlib.Core.Path.{refl}
-use borrow.Author.Rules.{rules}
 use Rattle.tick.proofs.Ticks.{tick-logged}
 use Rattle.tick.proofs.setting.Setting.logged.Goals as goal
 

@@ -1,5 +1,4 @@
 use native.Mathlib.Omega.{arith}
-use borrow.Author.Rules.{rules}
 use Rattle.tick.proofs.Writes.{wrote_none, outputs-bottom, outputs-else, outputs-none}
 use Rattle.tick.proofs.setting.Setting.outputs.Goals as goal
 

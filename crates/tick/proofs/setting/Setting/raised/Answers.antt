@@ -1,4 +1,3 @@
-use borrow.Author.Rules.{rules}
 use Rattle.tick.specs.Tick.{raised}
 use Rattle.tick.proofs.setting.Setting.raised.Goals as goal
 

@@ -1,6 +1,5 @@
 use Rattle.tick.proofs.Writes.{reapplied-wrote}
 use native.Mathlib.Omega.{arith}
-use borrow.Author.Rules.{rules}
 use Rattle.tick.proofs.setting.Setting.reapply.Goals as goal
 
 pub returns : goal.returns

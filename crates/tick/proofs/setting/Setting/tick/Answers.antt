@@ -1,5 +1,4 @@
 use native.Mathlib.Omega.{arith}
-use borrow.Author.Rules.{rules}
 use Rattle.tick.proofs.Ticks.{tick_is}
 use Rattle.tick.proofs.setting.Setting.tick.Goals as goal
 

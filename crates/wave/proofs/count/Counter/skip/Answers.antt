@@ -1,4 +1,3 @@
-use Rattle.std.proofs.Common.{rules}
 use Rattle.wave.proofs.Signs.{turn-back}
 use Rattle.wave.proofs.count.Counter.skip.Goals as goal
 

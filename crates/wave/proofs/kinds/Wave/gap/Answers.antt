@@ -1,4 +1,3 @@
-use Rattle.std.proofs.Common.{rules}
 use Rattle.wave.proofs.kinds.Wave.gap.Goals as goal
 
 pub returns : goal.returns
