@@ -1,21 +1,13 @@
--- What a test of a branch says.
+-- What the test of a branch of an advance says.
 use Prim.Native.Nat.{ℕ, ◌≤◌}
 use mathlib.Core.Bool.{Bool, true, false, cond, not, ◌&&◌, true≢false}
 use mathlib.Core.Path.{◌≡◌, refl, sym, ◌∙◌}
-use lib.Dec.{T, eqb, leb}
+use lib.Dec.{eqb, leb}
 use borrow.Author.Tests.{leb-true}
 use Rattle.tick.proofs.Choices.{and_left}
 use Rattle.time.specs.Units.{late_at}
 use Rattle.held.specs.Quick.{refusing}
 use Rattle.climbing.specs.Rise.{strikes_of}
-
-pub is_true : (y : Bool) → T y → y ≡ true
-is_true true t = refl
-is_true false t = absurd t
-
-pub is_false : (y : Bool) → T (not y) → y ≡ false
-is_false true t = absurd t
-is_false false t = refl
 
 -- a call that may strike and is not still meets an event
 pub met : (kind : ℕ) (blocked : Bool) (latest next cycle room : ℕ) → strikes_of kind blocked latest next cycle room ≡ true → eqb (refusing true latest next cycle) 0 ≡ false → next ≤ cycle
