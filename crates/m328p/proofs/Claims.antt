@@ -10,7 +10,7 @@ use Rattle.m328p.specs.declared.Id.{Id}
 use Rattle.m328p.specs.declared.Id.TheVariants as id
 use Rattle.m328p.specs.declared.Place.{Place}
 use Rattle.m328p.specs.declared.Place.TheVariants as place
-use Rattle.m328p.specs.Timers.{timer0, timer1, timer2, config_of}
+use Rattle.m328p.specs.Timers.{timer0, timer1, timer2}
 use Rattle.m328p.specs.Places.{is_of, register_at, place_at, Accepted, Own}
 
 pub all-accepted : Accepted

@@ -1,6 +1,6 @@
 -- The tests of an address, one timer after the other.
 use Prim.Native.Nat.{ℕ}
-use mathlib.Core.Bool.{Bool, true, false, cond}
+use mathlib.Core.Bool.{Bool}
 use mathlib.Core.Path.{◌≡◌, sym, ◌∙◌}
 use Rattle.config.specs.declared.Config.{Config}
 use Rattle.m328p.specs.Places.{is_of}

@@ -1,17 +1,15 @@
 -- Laws of pages: bytes one after the other, and the texts that they make.
-use Prim.Native.Nat.{ℕ, ◌+◌, ◌-◌, ◌≤◌, ◌<◌, ◌^◌}
+use Prim.Native.Nat.{ℕ, ◌+◌, ◌≤◌, ◌<◌, ◌^◌}
 use native.Mathlib.Omega.{arith}
-use mathlib.Core.Path.{◌≡◌, refl, sym, ap, ◌∙◌}
+use mathlib.Core.Path.{refl, sym, ap, ◌∙◌}
 use mathlib.Core.List.{List, [], ◌∷◌, ◌++◌, foldl-append}
 use borrow.Author.Tests.{lt-ltb, le-ltb}
 use lib.ListN.{length, set, take, get_or}
 use lib.Seq.{take-suc, take_all}
-use native.Mathlib.Decide.{dec_le}
-use native.Mathlib.Nat.{pow-le-pow_right}
 use native.Mathlib.Numerals.{add-one}
 use Rattle.figures.specs.Figures.{decimal}
 use Rattle.figures.proofs.Writing.{decimal-length}
-use Rattle.page.specs.Page.{Sheet, sheet, size, put, puts, Puts, pattern}
+use Rattle.page.specs.Page.{Sheet, sheet, size, put, puts, Puts}
 
 -- a byte where a page has room
 pub put-here : (page : List ℕ) (at b : ℕ) → at < size → Puts page at (set page at b) (at + 1) (b ∷ [])

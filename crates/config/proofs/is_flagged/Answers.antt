@@ -1,5 +1,4 @@
 use Rattle.config.specs.Config.{flagged}
-use borrow.Author.Rules.{rules}
 use Rattle.config.proofs.is_flagged.Goals as goal
 
 pub returns-then-present : goal.returns-then-present

@@ -2,10 +2,7 @@
 use Rattle.config_keys.proofs.Reading.{occurs-more}
 use lib.Seq.{take_all}
 use native.Mathlib.Omega.{arith}
-use mathlib.Core.Path.{refl, sym, ap, ◌∙◌, ◌≡◌}
-use borrow.Author.Rules.{rules}
-use Prim.Native.Nat.{◌≤◌, ◌-◌}
-use lib.ListN.{length, take}
+use mathlib.Core.Path.{refl, sym, ap, ◌∙◌}
 use Rattle.config_keys.specs.Keys.{occurs}
 use Rattle.config_keys.proofs.colons.Goals as goal
 

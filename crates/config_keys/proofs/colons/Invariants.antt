@@ -1,9 +1,5 @@
 -- `config_keys::colons` meets its contract. The loop's invariant: the colons passed are counted.
-use Rattle.config_keys.proofs.Reading.{occurs-more}
-use lib.Seq.{take_all}
-use native.Mathlib.Omega.{arith}
-use mathlib.Core.Path.{refl, sym, ap, ◌∙◌, ◌≡◌}
-use borrow.Author.Rules.{rules}
+use mathlib.Core.Path.{◌≡◌}
 use Prim.Native.Nat.{◌≤◌, ◌-◌}
 use lib.ListN.{length, take}
 use Rattle.config_keys.specs.Keys.{occurs}

@@ -1,7 +1,6 @@
 -- `config_keys::named` meets its contract.
 use Rattle.config_keys.specs.Keys.{named_of}
 use borrow.Author.Tests.{lt-ltb, le-ltb}
-use borrow.Author.Rules.{rules}
 use Rattle.config_keys.proofs.named.Goals as goal
 
 pub returns-then-n-many : goal.returns-then-n-many

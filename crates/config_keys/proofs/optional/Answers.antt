@@ -4,7 +4,6 @@ use Rattle.words.proofs.Places.{same_not, same-yes}
 use Rattle.figures.specs.Figures.{codes}
 use mathlib.Core.Bool.{false≢true}
 use mathlib.Core.Path.{sym, ◌∙◌}
-use borrow.Author.Rules.{rules}
 use Rattle.config_keys.proofs.optional.Goals as goal
 
 pub returns-then-same : goal.returns-then-same

@@ -1,7 +1,6 @@
 -- `config_keys::pin` meets its contract.
 use Rattle.config_keys.specs.Keys.{unit_value}
 use mathlib.Core.Path.{ap, ◌∙◌}
-use borrow.Author.Rules.{rules}
 use Rattle.config_keys.proofs.pin.Goals as goal
 
 pub returns : goal.returns

@@ -2,7 +2,6 @@
 use Rattle.config_keys.specs.Keys.{written_of}
 use Rattle.figures.specs.Figures.{codes}
 use borrow.Author.Tests.{ne_eqb}
-use borrow.Author.Rules.{rules}
 use Rattle.config_keys.proofs.written.Goals as goal
 
 pub returns-in-0 : goal.returns-in-0

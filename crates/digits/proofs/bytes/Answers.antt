@@ -1,9 +1,7 @@
 -- `digits::bytes` meets its contract.
 use mathlib.Core.Bool.{true≢false}
 use mathlib.Core.Path.{sym, ◌∙◌}
-use borrow.Author.Rules.{rules}
 use Rattle.digits.proofs.Pairing.{bytes-stopped, bytes-none, bytes-some}
-use borrow.Author.Rules.{rules}
 use Rattle.digits.proofs.bytes.Goals as goal
 
 pub returns-then-c-ne-FINE : goal.returns-then-c-ne-FINE

@@ -1,10 +1,8 @@
 -- `digits::taken` meets its contract. The loop's invariant: the bytes of the pairs passed are taken. The measure is what is left of the word.
 use Rattle.words.specs.declared.Read.{Read}
 use mathlib.Core.Path.{refl, ap, ◌∙◌}
-use Prim.Native.Nat.{◌≤◌, ◌-◌}
 use native.Mathlib.Omega.{arith}
-use borrow.Author.Rules.{rules}
-use Rattle.digits.proofs.Pairing.{Taking, pair_is, taking-none, taking-more, taking-failed, taking-all, taking-odd, taking-large}
+use Rattle.digits.proofs.Pairing.{pair_is, taking-none, taking-more, taking-failed, taking-all, taking-odd, taking-large}
 use Rattle.digits.proofs.taken.Goals as goal
 
 pub returns-then-word-ne0 : goal.returns-then-word-ne0

@@ -1,9 +1,8 @@
 use Rattle.records.proofs.Records.{sets_more}
 use lib.Seq.{sets, take_all}
-use lib.ListN.{length, take, length-set}
+use lib.ListN.{length-set}
 use native.Mathlib.Omega.{arith}
-use mathlib.Core.Path.{◌≡◌, refl, ap, ◌∙◌}
-use Prim.Native.Nat.{◌-◌, ◌≤◌}
+use mathlib.Core.Path.{refl, ap, ◌∙◌}
 use Rattle.figures.proofs.put.Goals as goal
 
 pub loop-i-init : goal.loop-i-init
@@ -25,12 +24,11 @@ pub loop-i-smaller : goal.loop-i-smaller
 loop-i-smaller c = omega arith
 
 pub loop-i-preserved : goal.loop-i-preserved
-loop-i-preserved c =
-    (
-      omega arith,
-      rw c.loop-i.invariant.1 (sets_more _ c.args.at _ c.loop-i.i c.loop-i-test.true),
-      simp length-set c.loop-i.invariant.2,
-    )
+loop-i-preserved c = (
+  omega arith,
+  rw c.loop-i.invariant.1 (sets_more _ c.args.at _ c.loop-i.i c.loop-i-test.true),
+  simp length-set c.loop-i.invariant.2,
+)
 
 pub overflow_add-result : goal.overflow_add-result
 overflow_add-result c = omega arith

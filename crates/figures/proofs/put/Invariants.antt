@@ -1,8 +1,6 @@
-use Rattle.records.proofs.Records.{sets_more}
-use lib.Seq.{sets, take_all}
-use lib.ListN.{length, take, length-set}
-use native.Mathlib.Omega.{arith}
-use mathlib.Core.Path.{◌≡◌, refl, ap, ◌∙◌}
+use lib.Seq.{sets}
+use lib.ListN.{length, take}
+use mathlib.Core.Path.{◌≡◌}
 use Prim.Native.Nat.{◌-◌, ◌≤◌}
 use Rattle.figures.proofs.put.Given as goal
 

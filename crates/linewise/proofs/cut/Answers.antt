@@ -1,7 +1,6 @@
 -- `linewise::cut` meets its contract: what stands before the next line feed is held.
 use Rattle.linewise.proofs.Holding.{cut-ended, cut_short}
 use native.Mathlib.Omega.{arith}
-use borrow.Author.Rules.{rules}
 use Rattle.linewise.proofs.cut.Goals as goal
 
 pub returns-then-end-input : goal.returns-then-end-input

@@ -1,5 +1,4 @@
 -- `linewise::hold` meets its contract: a line that is full is too long.
-use borrow.Author.Rules.{rules}
 use Rattle.linewise.proofs.Holding.{hold-here, hold-over}
 use Rattle.linewise.proofs.hold.Goals as goal
 

@@ -1,10 +1,7 @@
 -- `linewise::hold_all` meets its contract. The loop's invariant: the bytes passed are held.
 use Prim.Native.Nat.{◌≤◌, ◌-◌}
-use borrow.Author.Rules.{rules}
-use native.Mathlib.Omega.{arith}
 use lib.ListN.{length, take}
 use Rattle.linewise.specs.Lines.{Holds}
-use Rattle.linewise.proofs.Holding.{hold-none, hold-more, hold-all}
 use Rattle.linewise.proofs.hold_all.Given as goal
 
 abbrev pub invariant-loop-i : goal.invariant-loop-i

@@ -1,5 +1,4 @@
 use Rattle.m328p.specs.Places.{is_of}
-use borrow.Author.Rules.{rules}
 use Rattle.m328p.proofs.is_of.Goals as goal
 
 pub returns : goal.returns

@@ -1,4 +1,3 @@
-use borrow.Author.Rules.{rules}
 use Rattle.m328p.proofs.no_compare.Goals as goal
 
 pub returns : goal.returns

@@ -1,6 +1,5 @@
 use borrow.Author.Tests.{ne_eqb}
 use Rattle.m328p.specs.Places.{place_at}
-use borrow.Author.Rules.{rules}
 use Rattle.m328p.proofs.placed.Goals as goal
 
 pub returns-in-53 : goal.returns-in-53

@@ -1,6 +1,5 @@
 use Rattle.m328p.proofs.Owners.{told_of}
 use Rattle.m328p.specs.Places.{register_at}
-use borrow.Author.Rules.{rules}
 use Rattle.m328p.proofs.register.Goals as goal
 
 pub returns-then-is_of : goal.returns-then-is_of

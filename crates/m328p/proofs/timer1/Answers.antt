@@ -1,4 +1,3 @@
-use borrow.Author.Rules.{rules}
 use Rattle.m328p.proofs.timer1.Goals as goal
 
 pub returns : goal.returns

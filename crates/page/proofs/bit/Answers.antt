@@ -1,7 +1,6 @@
 -- `page::bit` meets its contract.
 use Rattle.page.specs.Page.{flag}
 use Rattle.page.proofs.Sheets.{then}
-use borrow.Author.Rules.{rules}
 use Rattle.page.proofs.bit.Goals as goal
 
 pub returns-then-b : goal.returns-then-b

@@ -1,5 +1,4 @@
 -- `page::byte` meets its contract: a full page takes no more.
-use borrow.Author.Rules.{rules}
 use Rattle.page.proofs.Sheets.{put-here, put_full}
 use Rattle.page.proofs.byte.Goals as goal
 

@@ -1,6 +1,5 @@
 -- `page::glyph` meets its contract.
 use borrow.Author.Tests.{lt-ltb, le-ltb}
-use borrow.Author.Rules.{rules}
 use Rattle.page.proofs.glyph.Goals as goal
 
 pub returns-then-n-lt10 : goal.returns-then-n-lt10

@@ -2,7 +2,6 @@
 use borrow.Author.Tests.{ne_eqb}
 use Rattle.page.specs.Page.{reason_of}
 use Rattle.figures.specs.Figures.{codes}
-use borrow.Author.Rules.{rules}
 use Rattle.page.proofs.reason.Goals as goal
 
 pub returns-in-1 : goal.returns-in-1

@@ -1,6 +1,5 @@
 -- `page::register` meets its contract.
 use Rattle.page.proofs.Sheets.{then}
-use borrow.Author.Rules.{rules}
 use Rattle.page.proofs.register.Goals as goal
 
 pub returns : goal.returns

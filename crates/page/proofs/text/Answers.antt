@@ -1,9 +1,6 @@
 -- `page::text` meets its contract. The loop's invariant: the bytes passed are put.
-use Prim.Native.Nat.{◌≤◌, ◌-◌}
 use borrow.Author.Rules.{rules}
 use native.Mathlib.Omega.{arith}
-use lib.ListN.{length, take}
-use Rattle.page.specs.Page.{Puts}
 use Rattle.page.proofs.Sheets.{put-none, put-more, put_all}
 use Rattle.page.proofs.text.Goals as goal
 

@@ -4,7 +4,6 @@ use mathlib.Core.Path.{◌≡◌}
 use Rattle.page.specs.Page.{pair}
 use native.Mathlib.Omega.{arith}
 use Rattle.page.proofs.Sheets.{then}
-use borrow.Author.Rules.{rules}
 use Rattle.page.proofs.two.Goals as goal
 
 pub returns : goal.returns

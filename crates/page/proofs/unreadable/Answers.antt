@@ -2,7 +2,6 @@
 use Rattle.page.specs.Page.{unreadable_of}
 use Rattle.figures.specs.Figures.{codes}
 use Rattle.page.proofs.Sheets.{then}
-use borrow.Author.Rules.{rules}
 use Rattle.page.proofs.unreadable.Goals as goal
 
 pub returns : goal.returns

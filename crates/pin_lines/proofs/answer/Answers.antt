@@ -4,7 +4,6 @@ use Rattle.pin_lines.specs.PinLines.{refused_line, answer_line}
 use Rattle.pins.specs.Pins.{resolved_answer, contention_answer}
 use Rattle.figures.specs.Figures.{codes}
 use mathlib.Core.Path.{sym, ap, ◌∙◌}
-use borrow.Author.Rules.{rules}
 use Rattle.pin_lines.proofs.answer.Goals as goal
 
 pub returns-in-Is : goal.returns-in-Is

@@ -2,7 +2,6 @@
 use Rattle.pin_lines.proofs.Pinning.{puts-as, line-unread, line_read}
 use Rattle.pin_lines.specs.PinLines.{pin_of_line}
 use mathlib.Core.Path.{ap, ◌∙◌}
-use borrow.Author.Rules.{rules}
 use Rattle.pin_lines.proofs.pin_line.Goals as goal
 
 pub returns-then-keys-ne-FINE : goal.returns-then-keys-ne-FINE

@@ -2,7 +2,6 @@
 use Rattle.pin_lines.specs.PinLines.{resolved_line}
 use Rattle.page.proofs.Sheets.{then}
 use Rattle.figures.specs.Figures.{codes}
-use borrow.Author.Rules.{rules}
 use Rattle.pin_lines.proofs.resolved.Goals as goal
 
 pub returns : goal.returns

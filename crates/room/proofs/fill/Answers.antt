@@ -1,11 +1,8 @@
 -- `room::fill` meets its contract. The loop's invariant: as many bytes are filled as it has passed.
-use Prim.Native.Nat.{◌≤◌, ◌-◌}
-use mathlib.Core.List.{◌++◌}
 use mathlib.Core.Path.{◌≡◌, refl, ◌∙◌}
 use native.Mathlib.Omega.{arith}
-use borrow.Author.Rules.{rules}
 use borrow.Author.Fill.{fill_none}
-use lib.ListN.{length, set, length-set, drop, replicate}
+use lib.ListN.{length, set, length-set}
 use Rattle.room.proofs.Filling.{fill_on, fill-all}
 use Rattle.room.proofs.fill.Goals as goal
 

@@ -1,12 +1,8 @@
 -- `room::fill` meets its contract. The loop's invariant: as many bytes are filled as it has passed.
 use Prim.Native.Nat.{◌≤◌, ◌-◌}
 use mathlib.Core.List.{◌++◌}
-use mathlib.Core.Path.{◌≡◌, refl, ◌∙◌}
-use native.Mathlib.Omega.{arith}
-use borrow.Author.Rules.{rules}
-use borrow.Author.Fill.{fill_none}
-use lib.ListN.{length, set, length-set, drop, replicate}
-use Rattle.room.proofs.Filling.{fill_on, fill-all}
+use mathlib.Core.Path.{◌≡◌}
+use lib.ListN.{length, drop, replicate}
 use Rattle.room.proofs.fill.Given as goal
 
 abbrev pub invariant-loop-i : goal.invariant-loop-i

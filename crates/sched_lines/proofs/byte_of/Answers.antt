@@ -2,7 +2,6 @@
 use Rattle.sched_lines.specs.Sched.{byte_of}
 use borrow.Author.Tests.{le-leb, lt-leb}
 use native.Mathlib.Omega.{arith}
-use borrow.Author.Rules.{rules}
 use Rattle.sched_lines.proofs.byte_of.Goals as goal
 
 pub returns-in-0-to-2 : goal.returns-in-0-to-2

@@ -2,7 +2,6 @@
 use Rattle.sched_lines.specs.Sched.{called_of}
 use borrow.Author.Tests.{ne_eqb}
 use mathlib.Core.Path.{refl}
-use borrow.Author.Rules.{rules}
 use Rattle.sched_lines.proofs.call.Goals as goal
 
 pub returns-in-0 : goal.returns-in-0

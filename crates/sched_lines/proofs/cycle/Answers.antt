@@ -3,7 +3,6 @@ use Rattle.sched_lines.specs.Sched.{until_of}
 use Rattle.page.proofs.Sheets.{then}
 use Rattle.figures.specs.Figures.{codes}
 use borrow.Author.Tests.{lt-ltb, le-ltb}
-use borrow.Author.Rules.{rules}
 use Rattle.sched_lines.proofs.cycle.Goals as goal
 
 pub returns-then-n-lt18446744073709551615 : goal.returns-then-n-lt18446744073709551615

@@ -1,7 +1,6 @@
 -- `sched_lines::cycle_of` meets its contract.
 use Rattle.sched_lines.specs.Sched.{when_of}
 use borrow.Author.Tests.{ne_eqb}
-use borrow.Author.Rules.{rules}
 use Rattle.sched_lines.proofs.cycle_of.Goals as goal
 
 pub returns-in-0 : goal.returns-in-0

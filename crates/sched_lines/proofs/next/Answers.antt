@@ -1,6 +1,5 @@
 -- `sched_lines::next` meets its contract.
 use Rattle.figures.specs.Figures.{codes}
-use borrow.Author.Rules.{rules}
 use Rattle.sched_lines.proofs.next.Goals as goal
 
 pub returns : goal.returns

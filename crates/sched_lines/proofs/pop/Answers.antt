@@ -5,7 +5,6 @@ use Rattle.figures.specs.Figures.{codes}
 use Rattle.events.specs.declared.Event.{Event}
 use mathlib.Core.Option.{Option}
 use mathlib.Core.Path.{ap}
-use borrow.Author.Rules.{rules}
 use Rattle.sched_lines.proofs.pop.Goals as goal
 
 pub returns-in-Popped : goal.returns-in-Popped

@@ -2,7 +2,6 @@
 use Rattle.sched_lines.specs.Sched.{event_line}
 use Rattle.page.proofs.Sheets.{then}
 use Rattle.figures.specs.Figures.{codes}
-use borrow.Author.Rules.{rules}
 use Rattle.sched_lines.proofs.popped.Goals as goal
 
 pub returns : goal.returns

@@ -1,7 +1,6 @@
 -- `sched_lines::read` meets its contract.
 use Rattle.sched_lines.proofs.Asking.{asked-read}
 use mathlib.Core.Path.{sym}
-use borrow.Author.Rules.{rules}
 use Rattle.sched_lines.proofs.read.Goals as goal
 
 pub returns : goal.returns

@@ -1,7 +1,6 @@
 -- `sched_lines::sched_line` meets its contract.
 use Rattle.sched_lines.proofs.Asking.{sched-missing, sched-unknown, sched-unread, sched-called}
 use Rattle.figures.specs.Figures.{codes}
-use borrow.Author.Rules.{rules}
 use Rattle.sched_lines.proofs.sched_line.Goals as goal
 
 pub returns-then-start-line : goal.returns-then-start-line

@@ -1,7 +1,6 @@
 -- `sched_lines::scheduled` meets its contract.
 use Rattle.sched_lines.specs.Sched.{at_line}
 use Rattle.figures.specs.Figures.{codes}
-use borrow.Author.Rules.{rules}
 use Rattle.sched_lines.proofs.scheduled.Goals as goal
 
 pub returns-in-At : goal.returns-in-At

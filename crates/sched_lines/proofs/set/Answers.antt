@@ -4,7 +4,6 @@ use Rattle.scheduler.specs.declared.Scheduler.{Scheduler}
 use Rattle.figures.specs.Figures.{codes}
 use mathlib.Core.Path.{ap}
 use Prim.Native.Nat.{ℕ}
-use borrow.Author.Rules.{rules}
 use Rattle.sched_lines.proofs.set.Goals as goal
 
 pub returns-in-Accepted : goal.returns-in-Accepted

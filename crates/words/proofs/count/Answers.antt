@@ -1,7 +1,6 @@
 -- `words::count` meets its contract. The loop's invariant: the words passed, with those from the place on, are all.
-use Rattle.std.proofs.Common.{◌≡◌, ◌+◌, ◌-◌, ◌≤◌, length, drop, ap, arith, rules}
-use Rattle.words.specs.Words.{words}
-use Rattle.words.proofs.Places.{AtWord, at-word, words-skipped, words_more, words-none}
+use Rattle.std.proofs.Common.{length, ap, arith}
+use Rattle.words.proofs.Places.{at-word, words-skipped, words_more, words-none}
 use Rattle.words.proofs.count.Goals as goal
 
 pub loop-at-init : goal.loop-at-init

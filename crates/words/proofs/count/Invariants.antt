@@ -1,7 +1,7 @@
 -- `words::count` meets its contract. The loop's invariant: the words passed, with those from the place on, are all.
-use Rattle.std.proofs.Common.{◌≡◌, ◌+◌, ◌-◌, ◌≤◌, length, drop, ap, arith, rules}
+use Rattle.std.proofs.Common.{◌≡◌, ◌+◌, ◌-◌, ◌≤◌, length, drop}
 use Rattle.words.specs.Words.{words}
-use Rattle.words.proofs.Places.{AtWord, at-word, words-skipped, words_more, words-none}
+use Rattle.words.proofs.Places.{AtWord}
 use Rattle.words.proofs.count.Given as goal
 
 abbrev pub invariant-loop-at : goal.invariant-loop-at

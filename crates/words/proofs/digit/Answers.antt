@@ -1,5 +1,5 @@
 -- `words::digit` meets its contract: the ranges of its arms are the definition's.
-use Rattle.std.proofs.Common.{arith, rules}
+use Rattle.std.proofs.Common.{arith}
 use Rattle.words.specs.Numbers.{digit_of}
 use Rattle.words.proofs.Numerals.{among_in, among_below, among-above}
 use Rattle.words.proofs.digit.Goals as goal

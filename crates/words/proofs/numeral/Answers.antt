@@ -1,5 +1,5 @@
 -- `words::numeral` meets its contract. The loop's invariant: the bytes passed are digits, and the number is what they make, or too large.
-use Rattle.std.proofs.Common.{◌≡◌, ◌-◌, ◌≤◌, true, length, get_or, take, sym, refl, ap, ◌∙◌, arith, take_all, rules, le-leb}
+use Rattle.std.proofs.Common.{◌≡◌, get_or, take, sym, refl, ap, ◌∙◌, arith, take_all, le-leb}
 use Rattle.words.proofs.Numerals.{numeral-empty, numeral-malformed, numeral-digits, numeral-most, longer-limited, extended-more, digits_more, digits-failed}
 use Rattle.words.specs.Numbers.{all_digits, extended, limited, numeral_of, digit_of}
 use Rattle.words.proofs.numeral.Goals as goal

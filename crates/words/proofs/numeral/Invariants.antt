@@ -1,7 +1,6 @@
 -- `words::numeral` meets its contract. The loop's invariant: the bytes passed are digits, and the number is what they make, or too large.
-use Rattle.std.proofs.Common.{◌≡◌, ◌-◌, ◌≤◌, true, length, get_or, take, sym, refl, ap, ◌∙◌, arith, take_all, rules, le-leb}
-use Rattle.words.proofs.Numerals.{numeral-empty, numeral-malformed, numeral-digits, numeral-most, longer-limited, extended-more, digits_more, digits-failed}
-use Rattle.words.specs.Numbers.{all_digits, extended, limited, numeral_of, digit_of}
+use Rattle.std.proofs.Common.{◌≡◌, ◌-◌, ◌≤◌, true, length, take}
+use Rattle.words.specs.Numbers.{all_digits, extended, limited}
 use Rattle.words.proofs.numeral.Given as goal
 
 abbrev pub invariant-loop-i : goal.invariant-loop-i

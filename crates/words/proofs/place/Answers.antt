@@ -1,8 +1,8 @@
 -- `words::place` meets its contract. The loop's invariant: the names passed are others, and the word's place is counted on from the next.
-use Rattle.std.proofs.Common.{◌≡◌, ◌+◌, ◌-◌, ◌≤◌, length, drop, sym, refl, ap, ◌∙◌, arith, rules}
+use Rattle.std.proofs.Common.{sym, refl, ap, ◌∙◌, arith}
 use mathlib.Core.Bool.{false≢true}
-use Rattle.words.specs.Words.{words, place_in, skip_of}
-use Rattle.words.proofs.Places.{AtWord, at-word, words-skipped, words_more, words-none, place_here, place-later}
+use Rattle.words.specs.Words.{place_in, skip_of}
+use Rattle.words.proofs.Places.{at-word, words-skipped, words_more, words-none, place_here, place-later}
 use Rattle.words.proofs.place.Goals as goal
 
 pub loop-at-init : goal.loop-at-init

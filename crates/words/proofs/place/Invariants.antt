@@ -1,8 +1,7 @@
 -- `words::place` meets its contract. The loop's invariant: the names passed are others, and the word's place is counted on from the next.
-use Rattle.std.proofs.Common.{◌≡◌, ◌+◌, ◌-◌, ◌≤◌, length, drop, sym, refl, ap, ◌∙◌, arith, rules}
-use mathlib.Core.Bool.{false≢true}
-use Rattle.words.specs.Words.{words, place_in, skip_of}
-use Rattle.words.proofs.Places.{AtWord, at-word, words-skipped, words_more, words-none, place_here, place-later}
+use Rattle.std.proofs.Common.{◌≡◌, ◌+◌, ◌-◌, ◌≤◌, length, drop}
+use Rattle.words.specs.Words.{words, place_in}
+use Rattle.words.proofs.Places.{AtWord}
 use Rattle.words.proofs.place.Given as goal
 
 abbrev pub invariant-loop-at : goal.invariant-loop-at

@@ -1,7 +1,6 @@
 -- `words::seek` meets its contract. The loop's invariant: what is sought from the place on is what was sought at first.
-use Rattle.std.proofs.Common.{◌≡◌, ◌-◌, ◌≤◌, eqb, length, get_or, sym, ◌∙◌, arith, rules}
+use Rattle.std.proofs.Common.{◌≡◌, ◌-◌, ◌≤◌, length}
 use Rattle.words.specs.Words.{first_from, sought}
-use Rattle.words.proofs.Places.{test-sought, first-none, first-here, first-later}
 use Rattle.words.proofs.seek.Given as goal
 
 abbrev pub invariant-loop-i : goal.invariant-loop-i

@@ -1,6 +1,5 @@
 use Rattle.config.specs.Config.{flags_of}
 use native.Mathlib.Omega.{arith}
-use borrow.Author.Rules.{rules}
 use Rattle.config.proofs.Config.flags.Goals as goal
 
 pub returns : goal.returns

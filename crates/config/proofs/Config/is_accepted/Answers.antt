@@ -1,4 +1,3 @@
-use borrow.Author.Rules.{rules}
 use Rattle.config.specs.Config.{accepted}
 use Rattle.config.proofs.Config.is_accepted.Goals as goal
 

@@ -1,5 +1,4 @@
 use Rattle.config.specs.Config.{address_rule}
-use borrow.Author.Rules.{rules}
 use Rattle.config.proofs.Config.keeps_addresses.Goals as goal
 
 pub returns : goal.returns

@@ -1,5 +1,4 @@
 use Rattle.config.specs.Config.{compare_rule}
-use borrow.Author.Rules.{rules}
 use Rattle.config.proofs.Config.keeps_compares.Goals as goal
 
 pub returns-then-is_bare : goal.returns-then-is_bare

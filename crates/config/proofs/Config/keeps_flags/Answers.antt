@@ -1,5 +1,4 @@
 use Rattle.config.specs.Config.{flag_rule}
-use borrow.Author.Rules.{rules}
 use Rattle.config.proofs.Config.keeps_flags.Goals as goal
 
 pub returns : goal.returns

@@ -1,5 +1,4 @@
 use Rattle.config.specs.Config.{layout_rule}
-use borrow.Author.Rules.{rules}
 use Rattle.config.proofs.Config.keeps_layout.Goals as goal
 
 pub returns-then-is_split : goal.returns-then-is_split

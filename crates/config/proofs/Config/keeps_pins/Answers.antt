@@ -1,4 +1,3 @@
-use borrow.Author.Rules.{rules}
 use Rattle.config.specs.Config.{pin_rule}
 use Rattle.config.proofs.Config.keeps_pins.Goals as goal
 

@@ -1,6 +1,5 @@
 use Rattle.config.specs.Config.{owned}
 use native.Mathlib.Omega.{arith}
-use borrow.Author.Rules.{rules}
 use Rattle.config.proofs.Config.owned.Goals as goal
 
 pub returns : goal.returns

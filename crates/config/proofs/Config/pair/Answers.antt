@@ -1,5 +1,4 @@
 use Rattle.config.specs.Config.{pair_at}
-use borrow.Author.Rules.{rules}
 use Rattle.config.proofs.Config.pair.Goals as goal
 
 pub returns-then-present-at : goal.returns-then-present-at

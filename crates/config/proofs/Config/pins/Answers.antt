@@ -1,6 +1,5 @@
 use Rattle.config.specs.Config.{pins_of}
 use native.Mathlib.Omega.{arith}
-use borrow.Author.Rules.{rules}
 use Rattle.config.proofs.Config.pins.Goals as goal
 
 pub returns : goal.returns

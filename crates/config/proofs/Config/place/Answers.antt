@@ -2,7 +2,6 @@ use Rattle.config.proofs.Pairs.{found, passed}
 use mathlib.Core.Path.{sym, ◌∙◌}
 use native.Mathlib.Omega.{arith}
 use Rattle.config.specs.Config.{place_of}
-use borrow.Author.Rules.{rules}
 use Rattle.config.proofs.Config.place.Goals as goal
 
 pub returns-then-count-ne13 : goal.returns-then-count-ne13

@@ -5,7 +5,6 @@ use Rattle.figures.specs.Figures.{codes}
 use borrow.Author.Tests.{eq-eqb, ne_eqb}
 use mathlib.Core.Bool.{false≢true}
 use mathlib.Core.Path.{sym, ap, ◌∙◌}
-use borrow.Author.Rules.{rules}
 use Rattle.config_keys.proofs.Keys.compare.Goals as goal
 
 pub returns-then-same : goal.returns-then-same

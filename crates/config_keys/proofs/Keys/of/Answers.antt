@@ -1,12 +1,10 @@
 -- `config_keys::Keys::of` meets its contract. The loop's invariant: it folds the line's words.
-use borrow.Author.Rules.{rules}
-use Rattle.pairs.proofs.Lines.{folds-first, folds-more, folds-all, Folding}
+use Rattle.pairs.proofs.Lines.{folds-first, folds-more, folds-all}
 use Rattle.config_keys.specs.declared.Keys.{Keys}
 use Rattle.words.specs.Words.{words}
-use lib.ListN.{drop, length}
+use lib.ListN.{drop}
 use mathlib.Core.List.{foldl}
 use mathlib.Core.Path.{ap, ◌∙◌}
-use Prim.Native.Nat.{◌-◌}
 use Rattle.config_keys.specs.Keys.{with_of}
 use Rattle.config_keys.proofs.Keys.of.Goals as goal
 

@@ -5,7 +5,6 @@ use Rattle.config_keys.proofs.Reading.{fill_more, fill-all, keys-are, fill}
 use native.Mathlib.Numerals.{add-one}
 use native.Mathlib.Omega.{arith}
 use mathlib.Core.Path.{refl, ◌∙◌, ◌≡◌}
-use Prim.Native.Nat.{◌≤◌, ◌-◌}
 use Rattle.config_keys.proofs.Keys.over.Goals as goal
 
 pub loop-key-init : goal.loop-key-init

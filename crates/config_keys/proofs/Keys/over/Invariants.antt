@@ -1,10 +1,6 @@
 -- `config_keys::Keys::over` meets its contract. The loop's invariant: the values passed are filled from the other's.
-use lib.ListN.{length}
-use borrow.Author.Rules.{rules}
-use Rattle.config_keys.proofs.Reading.{fill_more, fill-all, keys-are, fill}
-use native.Mathlib.Numerals.{add-one}
-use native.Mathlib.Omega.{arith}
-use mathlib.Core.Path.{refl, ◌∙◌, ◌≡◌}
+use Rattle.config_keys.proofs.Reading.{fill}
+use mathlib.Core.Path.{◌≡◌}
 use Prim.Native.Nat.{◌≤◌, ◌-◌}
 use Rattle.config_keys.proofs.Keys.over.Given as goal
 

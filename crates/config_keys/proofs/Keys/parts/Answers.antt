@@ -1,11 +1,7 @@
 -- `config_keys::Keys::parts` meets its contract. The loop's invariant: the parts that are left make of the keys what all made of the first.
-use borrow.Author.Rules.{rules}
 use Rattle.config_keys.proofs.Reading.{parts_more, parts_all}
 use native.Mathlib.Omega.{arith}
-use mathlib.Core.Path.{refl, sym, ◌∙◌, ◌≡◌}
-use Prim.Native.Nat.{◌≤◌, ◌-◌}
-use lib.ListN.{length}
-use Rattle.config_keys.specs.Keys.{parts_from}
+use mathlib.Core.Path.{refl, sym, ◌∙◌}
 use Rattle.config_keys.proofs.Keys.parts.Goals as goal
 
 pub loop-key-init : goal.loop-key-init

@@ -1,8 +1,5 @@
 -- `config_keys::Keys::parts` meets its contract. The loop's invariant: the parts that are left make of the keys what all made of the first.
-use borrow.Author.Rules.{rules}
-use Rattle.config_keys.proofs.Reading.{parts_more, parts_all}
-use native.Mathlib.Omega.{arith}
-use mathlib.Core.Path.{refl, sym, ◌∙◌, ◌≡◌}
+use mathlib.Core.Path.{◌≡◌}
 use Prim.Native.Nat.{◌≤◌, ◌-◌}
 use lib.ListN.{length}
 use Rattle.config_keys.specs.Keys.{parts_from}

@@ -3,7 +3,6 @@ use Rattle.config_keys.specs.Keys.{saying_of, unit_value}
 use Rattle.config_keys.proofs.Reading.{keys-are}
 use mathlib.Core.List.{◌∷◌}
 use mathlib.Core.Path.{refl, ap, ap₂, ◌∙◌}
-use borrow.Author.Rules.{rules}
 use Rattle.config_keys.proofs.Keys.saying.Goals as goal
 
 pub returns : goal.returns

@@ -1,7 +1,6 @@
 -- `config_keys::Keys::set` meets its contract. A value is set only where nothing stopped before it.
 use Rattle.config_keys.specs.Keys.{set_of}
 use borrow.Author.Tests.{eq-eqb, ne_eqb}
-use borrow.Author.Rules.{rules}
 use Rattle.config_keys.proofs.Keys.set.Goals as goal
 
 pub returns-then-self-eq-FINE : goal.returns-then-self-eq-FINE

@@ -6,9 +6,7 @@ use borrow.Author.Tests.{eq-eqb, ne_eqb}
 use native.Mathlib.Numerals.{add-one}
 use native.Mathlib.Omega.{arith}
 use mathlib.Core.Path.{refl, ◌≡◌}
-use Prim.Native.Nat.{◌≤◌, ◌-◌}
-use mathlib.Core.Bool.{false}
-use lib.ListN.{length, take}
+use lib.ListN.{length}
 use Rattle.config_keys.proofs.Keys.whole.Goals as goal
 
 pub returns-then-self-ne-FINE : goal.returns-then-self-ne-FINE

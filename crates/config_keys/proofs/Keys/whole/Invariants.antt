@@ -1,14 +1,9 @@
 -- `config_keys::Keys::whole` meets its contract. The loop's invariant: of the keys passed none is missing.
-use borrow.Author.Rules.{rules}
-use Rattle.config_keys.specs.Keys.{whole_of, lacks}
-use Rattle.config_keys.proofs.Reading.{lacks-more, lacks-one}
-use borrow.Author.Tests.{eq-eqb, ne_eqb}
-use native.Mathlib.Numerals.{add-one}
-use native.Mathlib.Omega.{arith}
-use mathlib.Core.Path.{refl, ◌≡◌}
+use Rattle.config_keys.specs.Keys.{lacks}
+use mathlib.Core.Path.{◌≡◌}
 use Prim.Native.Nat.{◌≤◌, ◌-◌}
 use mathlib.Core.Bool.{false}
-use lib.ListN.{length, take}
+use lib.ListN.{take}
 use Rattle.config_keys.proofs.Keys.whole.Given as goal
 
 abbrev pub invariant-loop-key : goal.invariant-loop-key

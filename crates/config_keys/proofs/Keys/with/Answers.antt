@@ -5,7 +5,6 @@ use Rattle.pairs.proofs.Lines.{step-stopped, step-unknown, step_twice, step-take
 use borrow.Author.Tests.{eq-eqb, ne_eqb}
 use Rattle.figures.specs.Figures.{codes}
 use mathlib.Core.Path.{sym, ap, ◌∙◌}
-use borrow.Author.Rules.{rules}
 use Rattle.config_keys.proofs.Keys.with.Goals as goal
 
 pub returns-then-self-ne-FINE : goal.returns-then-self-ne-FINE

@@ -1,7 +1,6 @@
 -- `door_lines::asked::more` meets its contract.
 use Rattle.door_lines.specs.Asked.{more_of}
 use borrow.Author.Tests.{ne_eqb}
-use borrow.Author.Rules.{rules}
 use Rattle.door_lines.proofs.asked.more.Goals as goal
 
 pub returns-in-1 : goal.returns-in-1

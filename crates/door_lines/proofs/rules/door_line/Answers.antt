@@ -1,7 +1,6 @@
 -- `door_lines::rules::door_line` meets its contract: the name is looked up before the words are counted.
 use Rattle.door_lines.proofs.Leaving.{line-missing, line-heard, line-unknown}
 use Rattle.figures.specs.Figures.{codes}
-use borrow.Author.Rules.{rules}
 use Rattle.door_lines.proofs.rules.door_line.Goals as goal
 
 pub returns-then-start-line : goal.returns-then-start-line

@@ -1,7 +1,6 @@
 -- `door_lines::rules::due` meets its contract.
 use Rattle.door_lines.specs.Rules.{due_line}
 use Rattle.figures.specs.Figures.{codes}
-use borrow.Author.Rules.{rules}
 use Rattle.door_lines.proofs.rules.due.Goals as goal
 
 pub returns-in-At : goal.returns-in-At

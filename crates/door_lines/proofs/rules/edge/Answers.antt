@@ -3,7 +3,6 @@ use Rattle.door_lines.proofs.Leaving.{edge_none, edge_on-leaves}
 use Rattle.door.specs.Door.{SetValid}
 use Rattle.figures.specs.Figures.{codes}
 use mathlib.Core.Path.{subst}
-use borrow.Author.Rules.{rules}
 use Rattle.door_lines.proofs.rules.edge.Goals as goal
 
 pub edged-requires : goal.edged-requires

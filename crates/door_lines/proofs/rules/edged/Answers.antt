@@ -1,7 +1,6 @@
 -- `door_lines::rules::edged` meets its contract.
 use Rattle.door_lines.proofs.Leaving.{edge-refused, edge-taken}
 use Rattle.figures.specs.Figures.{codes}
-use borrow.Author.Rules.{rules}
 use Rattle.door_lines.proofs.rules.edged.Goals as goal
 
 pub edge-edged-requires : goal.edge-edged-requires

@@ -1,6 +1,5 @@
 -- `door_lines::rules::heard` meets its contract.
 use Rattle.door_lines.proofs.Leaving.{heard-unread, heard-edge, heard-rule}
-use borrow.Author.Rules.{rules}
 use Rattle.door_lines.proofs.rules.heard.Goals as goal
 
 pub returns-then-asked-ne-FINE : goal.returns-then-asked-ne-FINE

@@ -3,7 +3,6 @@ use Rattle.door_lines.specs.Rules.{due_line}
 use Rattle.page.specs.Page.{Puts}
 use Rattle.door.specs.Door.{Close}
 use mathlib.Core.Path.{refl, subst}
-use borrow.Author.Rules.{rules}
 use Rattle.door_lines.proofs.rules.kept.Goals as goal
 
 pub returns : goal.returns

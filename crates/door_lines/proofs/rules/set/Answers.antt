@@ -3,7 +3,6 @@ use Rattle.door_lines.proofs.Leaving.{rule-refused, rule-set}
 use Rattle.door.specs.Door.{SetValid}
 use Rattle.figures.specs.Figures.{codes}
 use mathlib.Core.Path.{subst}
-use borrow.Author.Rules.{rules}
 use Rattle.door_lines.proofs.rules.set.Goals as goal
 
 pub kept-requires : goal.kept-requires

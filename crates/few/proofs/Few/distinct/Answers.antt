@@ -1,7 +1,6 @@
 use mathlib.Core.Path.{refl}
-use Prim.Native.Nat.{◌-◌}
 use Rattle.few.specs.Few.{distinct}
-use Rattle.few.proofs.Passing.{Left, decides, passes, ends}
+use Rattle.few.proofs.Passing.{decides, passes, ends}
 use borrow.Author.Rules.{rules}
 use Rattle.few.proofs.Few.distinct.Goals as goal
 

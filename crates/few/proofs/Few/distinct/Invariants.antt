@@ -1,8 +1,6 @@
-use mathlib.Core.Path.{refl}
 use Prim.Native.Nat.{◌-◌}
 use Rattle.few.specs.Few.{distinct}
-use Rattle.few.proofs.Passing.{Left, decides, passes, ends}
-use borrow.Author.Rules.{rules}
+use Rattle.few.proofs.Passing.{Left}
 use Rattle.few.proofs.Few.distinct.Given as goal
 
 abbrev pub invariant-loop-i : goal.invariant-loop-i

@@ -1,8 +1,7 @@
 use borrow.Author.Tests.{eq-eqb, ne_eqb}
 use mathlib.Core.Path.{refl}
-use Prim.Native.Nat.{◌-◌}
 use Rattle.few.specs.Few.{has}
-use Rattle.few.proofs.Passing.{Left, decides, passes, ends}
+use Rattle.few.proofs.Passing.{decides, passes, ends}
 use borrow.Author.Rules.{rules}
 use Rattle.few.proofs.Few.has.Goals as goal
 

@@ -1,9 +1,6 @@
-use borrow.Author.Tests.{lt-leb, le-leb}
-use mathlib.Core.Path.{refl}
 use Prim.Native.Nat.{◌-◌}
 use Rattle.few.specs.Few.{within}
-use Rattle.few.proofs.Passing.{Left, decides, passes, ends}
-use borrow.Author.Rules.{rules}
+use Rattle.few.proofs.Passing.{Left}
 use Rattle.few.proofs.Few.within.Given as goal
 
 abbrev pub invariant-loop-i : goal.invariant-loop-i

@@ -2,7 +2,6 @@
 use Rattle.pin_lines.specs.PinLines.{connected_of}
 use Rattle.figures.specs.Figures.{codes}
 use borrow.Author.Tests.{lt-ltb, le-ltb}
-use borrow.Author.Rules.{rules}
 use Rattle.pin_lines.proofs.Keys.connected.Goals as goal
 
 pub returns-then-n-gt3 : goal.returns-then-n-gt3

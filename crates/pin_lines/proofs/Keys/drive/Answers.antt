@@ -2,7 +2,6 @@
 use Rattle.pin_lines.specs.PinLines.{drive_of}
 use lib.ListN.{get_or}
 use borrow.Author.Tests.{ne_eqb}
-use borrow.Author.Rules.{rules}
 use Rattle.pin_lines.proofs.Keys.drive.Goals as goal
 
 pub returns-in-1 : goal.returns-in-1

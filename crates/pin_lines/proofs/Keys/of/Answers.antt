@@ -1,13 +1,11 @@
 -- `pin_lines::Keys::of` meets its contract. The loop's invariant: it folds the line's words.
-use Rattle.pairs.proofs.Lines.{Folding, folds-first, folds-more, folds-all}
+use Rattle.pairs.proofs.Lines.{folds-first, folds-more, folds-all}
 use Rattle.pin_lines.specs.PinLines.{with_of}
 use Rattle.pin_lines.specs.declared.Keys.{Keys}
 use Rattle.words.specs.Words.{words}
-use lib.ListN.{length, drop}
-use borrow.Author.Rules.{rules}
+use lib.ListN.{drop}
 use mathlib.Core.List.{foldl}
 use mathlib.Core.Path.{ap, ◌∙◌}
-use Prim.Native.Nat.{◌-◌}
 use Rattle.pin_lines.proofs.Keys.of.Goals as goal
 
 pub loop-at-init : goal.loop-at-init

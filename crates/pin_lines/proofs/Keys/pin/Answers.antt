@@ -2,7 +2,6 @@
 use Rattle.pin_lines.proofs.Pinning.{pin-is}
 use lib.Ieee.{of_bits}
 use borrow.Author.Tests.{le-leb, lt-leb}
-use borrow.Author.Rules.{rules}
 use Rattle.pin_lines.proofs.Keys.pin.Goals as goal
 
 pub returns-then-reserved-le1 : goal.returns-then-reserved-le1

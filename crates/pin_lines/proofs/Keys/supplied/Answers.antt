@@ -3,7 +3,6 @@ use Rattle.pin_lines.specs.PinLines.{keys_are}
 use Rattle.words.specs.declared.volts.Volts.{Volts}
 use lib.ListN.{set}
 use mathlib.Core.Path.{ap}
-use borrow.Author.Rules.{rules}
 use Rattle.pin_lines.proofs.Keys.supplied.Goals as goal
 
 pub returns : goal.returns

@@ -5,7 +5,6 @@ use Rattle.words.proofs.Places.{rest_of}
 use Rattle.figures.specs.Figures.{codes}
 use borrow.Author.Tests.{ne_eqb}
 use mathlib.Core.Path.{sym, ap, ◌∙◌}
-use borrow.Author.Rules.{rules}
 use Rattle.pin_lines.proofs.Keys.with.Goals as goal
 
 pub returns-then-self-ne-FINE : goal.returns-then-self-ne-FINE

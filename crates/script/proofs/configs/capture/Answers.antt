@@ -1,5 +1,4 @@
 -- `script::configs::capture` meets its contract.
-use borrow.Author.Rules.{rules}
 use Rattle.script.proofs.configs.capture.Goals as goal
 
 pub returns : goal.returns

@@ -1,5 +1,4 @@
 -- `script::configs::compare` meets its contract.
-use borrow.Author.Rules.{rules}
 use Rattle.script.proofs.configs.compare.Goals as goal
 
 pub returns : goal.returns

@@ -1,6 +1,5 @@
 -- `script::configs::config` meets its contract.
 use Rattle.script.proofs.Naming.{config-is}
-use borrow.Author.Rules.{rules}
 use Rattle.script.proofs.configs.config.Goals as goal
 
 pub returns : goal.returns

@@ -3,7 +3,6 @@ use Rattle.script.proofs.Naming.{preset-missing, preset-unknown, preset-known}
 use Rattle.config_keys.specs.Keys.{stopped_of, over_of}
 use Rattle.config_keys.specs.declared.Keys.{Keys}
 use mathlib.Core.Path.{sym, ap, ap₂, ◌∙◌}
-use borrow.Author.Rules.{rules}
 use Rattle.script.proofs.configs.named.Goals as goal
 
 pub returns-then-start-line : goal.returns-then-start-line

@@ -2,7 +2,6 @@
 use Rattle.script.specs.Configs.{given_of}
 use Rattle.config_keys.specs.Keys.{whole_of}
 use mathlib.Core.Path.{ap, ◌∙◌}
-use borrow.Author.Rules.{rules}
 use Rattle.script.proofs.configs.of_keys.Goals as goal
 
 pub returns : goal.returns

@@ -1,7 +1,6 @@
 -- `script::configs::of_preset` meets its contract.
 use Rattle.script.specs.Configs.{given_of}
 use mathlib.Core.Path.{ap, ◌∙◌}
-use borrow.Author.Rules.{rules}
 use Rattle.script.proofs.configs.of_preset.Goals as goal
 
 pub returns : goal.returns

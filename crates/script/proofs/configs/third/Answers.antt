@@ -2,7 +2,6 @@
 use Rattle.script.specs.Configs.{third_of}
 use lib.ListN.{get_or}
 use borrow.Author.Tests.{eq-eqb, ne_eqb}
-use borrow.Author.Rules.{rules}
 use Rattle.script.proofs.configs.third.Goals as goal
 
 pub returns-then-v-eq-ABSENT : goal.returns-then-v-eq-ABSENT

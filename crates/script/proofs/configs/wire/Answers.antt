@@ -1,5 +1,4 @@
 -- `script::configs::wire` meets its contract.
-use borrow.Author.Rules.{rules}
 use Rattle.script.proofs.configs.wire.Goals as goal
 
 pub returns : goal.returns

@@ -5,7 +5,6 @@ use Rattle.words.proofs.Numerals.{among_in, among-above}
 use borrow.Author.Tests.{ne_eqb}
 use native.Mathlib.Omega.{arith}
 use mathlib.Core.Path.{ap, ◌∙◌}
-use borrow.Author.Rules.{rules}
 use Rattle.script.proofs.presets.keys.Goals as goal
 
 pub returns-in-0 : goal.returns-in-0

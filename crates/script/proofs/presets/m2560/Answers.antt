@@ -2,7 +2,6 @@
 use Rattle.script.specs.Presets.{m2560_text}
 use Rattle.figures.specs.Figures.{codes}
 use borrow.Author.Tests.{ne_eqb}
-use borrow.Author.Rules.{rules}
 use Rattle.script.proofs.presets.m2560.Goals as goal
 
 pub returns-in-3 : goal.returns-in-3

@@ -2,7 +2,6 @@
 use Rattle.script.specs.Presets.{older_text}
 use Rattle.figures.specs.Figures.{codes}
 use borrow.Author.Tests.{ne_eqb}
-use borrow.Author.Rules.{rules}
 use Rattle.script.proofs.presets.older.Goals as goal
 
 pub returns-in-7 : goal.returns-in-7

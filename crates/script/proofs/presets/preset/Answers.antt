@@ -1,6 +1,5 @@
 -- `script::presets::preset` meets its contract.
 use Rattle.figures.specs.Figures.{codes}
-use borrow.Author.Rules.{rules}
 use Rattle.script.proofs.presets.preset.Goals as goal
 
 pub returns : goal.returns

@@ -3,7 +3,7 @@ use Rattle.words.proofs.Tens.{held_more, digits-empty, digits-malformed, digits-
 use Rattle.words.proofs.Numerals.{digits_more, digits-failed}
 use Rattle.words.specs.Decimals.{held_of}
 use Rattle.words.specs.Numbers.{all_digits}
-use Rattle.std.proofs.Common.{◌≡◌, ◌-◌, ◌^◌, ◌<◌, ◌≤◌, true, length, take, sym, refl, ◌∙◌, arith, take_all, rules}
+use Rattle.std.proofs.Common.{sym, refl, ◌∙◌, arith, take_all, rules}
 use Rattle.words.proofs.volts.digits.Goals as goal
 
 pub returns-then-word-eq0 : goal.returns-then-word-eq0

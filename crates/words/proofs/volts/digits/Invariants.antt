@@ -1,9 +1,7 @@
 -- `words::volts::digits` meets its contract. The loop's invariant: the bytes passed are digits, and the number holds them, as far as it has room.
-use Rattle.words.proofs.Tens.{held_more, digits-empty, digits-malformed, digits-read}
-use Rattle.words.proofs.Numerals.{digits_more, digits-failed}
 use Rattle.words.specs.Decimals.{held_of}
 use Rattle.words.specs.Numbers.{all_digits}
-use Rattle.std.proofs.Common.{◌≡◌, ◌-◌, ◌^◌, ◌<◌, ◌≤◌, true, length, take, sym, refl, ◌∙◌, arith, take_all, rules}
+use Rattle.std.proofs.Common.{◌≡◌, ◌-◌, ◌^◌, ◌<◌, ◌≤◌, true, length, take}
 use Rattle.words.proofs.volts.digits.Given as goal
 
 abbrev pub invariant-loop-i : goal.invariant-loop-i

@@ -1,5 +1,5 @@
 -- `words::volts::pattern` meets its contract: what equals itself is no NaN, so it has a pattern, and of what does not there is one.
-use Rattle.std.proofs.Common.{◌≡◌, true, not, T, sym, subst, rules}
+use Rattle.std.proofs.Common.{◌≡◌, true, not, T, sym, subst}
 use lib.Ieee.{Float, nan, inf, fin, eq, ne, is_nan, to_bits}
 use lib.Ieee.Compare.{differs_from_itself}
 use Rattle.words.proofs.volts.pattern.Goals as goal

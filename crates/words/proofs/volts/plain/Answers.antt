@@ -2,7 +2,7 @@
 use Rattle.words.proofs.Tens.{plain-whole, plain-malformed, plain-both}
 use Rattle.words.proofs.Places.{rest_of}
 use Rattle.words.specs.Decimals.{digits_of}
-use Rattle.std.proofs.Common.{◌≡◌, ℕ, ◌+◌, ◌-◌, List, sym, ap, ◌∙◌, arith, rules}
+use Rattle.std.proofs.Common.{◌≡◌, ℕ, ◌+◌, ◌-◌, List, sym, ap, ◌∙◌, arith}
 use Rattle.words.proofs.volts.plain.Goals as goal
 
 pub returns-then-point-word : goal.returns-then-point-word

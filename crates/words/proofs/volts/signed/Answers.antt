@@ -1,7 +1,7 @@
 -- `words::volts::signed` meets its contract.
 use Rattle.words.proofs.Places.{rest_of}
 use Rattle.words.specs.Decimals.{plain_of, negated_of, signed_of}
-use Rattle.std.proofs.Common.{length, get_or, ap, ◌∙◌, rules, eq-eqb, ne_eqb}
+use Rattle.std.proofs.Common.{length, get_or, ap, ◌∙◌, eq-eqb, ne_eqb}
 use Rattle.words.proofs.volts.signed.Goals as goal
 
 pub returns-then-word-eq0 : goal.returns-then-word-eq0

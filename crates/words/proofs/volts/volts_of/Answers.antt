@@ -3,7 +3,7 @@ use Rattle.words.proofs.Places.{same-yes, same_not}
 use Rattle.words.specs.Decimals.{volts_of}
 use lib.Ieee.{of_bits, div, neg}
 use mathlib.Core.Bool.{false≢true}
-use Rattle.std.proofs.Common.{sym, ◌∙◌, rules}
+use Rattle.std.proofs.Common.{sym, ◌∙◌}
 use Rattle.words.proofs.volts.volts_of.Goals as goal
 
 pub returns-then-same : goal.returns-then-same

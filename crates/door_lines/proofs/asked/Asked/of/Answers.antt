@@ -1,6 +1,5 @@
 -- `door_lines::asked::Asked::of` meets its contract: the words are read in their order.
 use Rattle.door_lines.proofs.Asking.{asked_is}
-use borrow.Author.Rules.{rules}
 use Rattle.door_lines.proofs.asked.Asked.of.Goals as goal
 
 pub returns : goal.returns

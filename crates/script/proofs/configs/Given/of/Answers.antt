@@ -1,5 +1,4 @@
 -- `script::configs::Given::of` meets its contract.
-use borrow.Author.Rules.{rules}
 use Rattle.script.proofs.configs.Given.of.Goals as goal
 
 pub returns : goal.returns
