@@ -26,9 +26,9 @@ unfolding unless_refused
 after-refused a n left e = rw e
 
 -- any other
-pub after-accepted : (a : Answer) (left : List ℕ) → OneOf (1 ∷ 2 ∷ 3 ∷ 4 ∷ []) (tag_of the_type a) → unless_refused (values_of a) left ≡ left
+pub after-accepted : (a : Answer) (left : List ℕ) → ((n : ℕ) → a ≡ answer.Refused n → ⊥) → unless_refused (values_of a) left ≡ left
 unfolding unless_refused
-after-accepted (answer.Refused n) left h = absurd (miss (1 ∷ 2 ∷ 3 ∷ 4 ∷ []) 0 tt h)
+after-accepted (answer.Refused n) left h = absurd (h n refl)
 after-accepted answer.Done left h = refl
 after-accepted (answer.Value v) left h = refl
 after-accepted (answer.Next e) left h = refl

@@ -1,0 +1,5 @@
+use borrow.Author.Rules.{rules}
+use Rattle.board_lines.proofs.ordered.spoilt.Goals as goal
+
+pub returns : goal.returns
+returns c = rw c.changed.ensures
