@@ -12,9 +12,6 @@ returns-then-edged-ne0 c =
     let a = c.args in
     edge-refused a.d _ _ a.from c.edge-edged.result _ _ c.edge-edged.ensures.0 c.if-edged-ne0.true c.requires.0 c.number.ensures
 
-pub kept-requires : goal.kept-requires
-kept-requires c = c.edge-edged.ensures.1
-
 pub returns : goal.returns
 returns c =
     let a = c.args in
