@@ -1,5 +1,5 @@
 -- Sync and advance, tick by tick and by events.
-use Prim.Native.Nat.{ℕ, ◌-◌}
+use Prim.Native.Nat.{ℕ}
 use mathlib.Core.Path.{◌≡◌, refl, ap}
 use mathlib.Core.Bool.{Bool, true}
 use lib.Dec.{leb, leb-zero}

@@ -1,6 +1,6 @@
 -- A fresh timer (01, "Readings on the bench", and refusal 1 of "Calls turned away").
 -- The sheet: the initial values of "Register Description".
-use Rattle.std.specs.Prelude.{ℕ, true, false, cond, [], ◌∷◌, ◌≡◌, pos}
+use Rattle.std.specs.Prelude.{true, false, cond, [], ◌∷◌, ◌≡◌, pos}
 use Rattle.config.specs.declared.Config.{Config}
 use Rattle.config.specs.Config.{accepted, least}
 use Rattle.tick.specs.declared.setting.Drives.{Drives}

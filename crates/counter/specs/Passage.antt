@@ -1,6 +1,6 @@
 -- Time passes: the ticks up to a cycle, or up to the first whose records do not fit.
 -- The sheet: "Internal Clock Source"; the rest is 01's.
-use Rattle.std.specs.Prelude.{ℕ, ◌+◌, ◌-◌, max, ◌≡◌, Bool, true, false, cond, List, [], ◌++◌, length, drop, leb}
+use Rattle.std.specs.Prelude.{ℕ, ◌-◌, max, ◌≡◌, Bool, true, false, cond, List, [], ◌++◌, length, drop, leb}
 use Rattle.time.specs.declared.units.Prescaler.{Prescaler}
 use Rattle.time.specs.Clock.{synced_at}
 use Rattle.time.specs.Units.{ticks_at, cycle_at}

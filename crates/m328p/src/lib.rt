@@ -187,6 +187,7 @@ fn register(address: u16) -> Place
 }
 
 // Yields what stands at a data address.
+#[tactic(auto, unfolding(crate::specs::Places::place_at))]
 pub fn placed(address: u16) -> Place
     ensures { result ≡ place_at address }
 {

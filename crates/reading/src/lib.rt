@@ -76,6 +76,7 @@ pub fn peek(t: Timer, place: u8) -> u8
 
 // A register's byte as a program reads it. TCNTn and ICRn go through TEMP: a high byte is TEMP, a low one fills it in a
 // wide timer. A compare passes TEMP by.
+#[tactic(auto, unfolding(counter::specs::Registers::read_value, counter::specs::Registers::read_timer))]
 pub fn read(t: Timer, place: u8) -> Byte
     ensures { (result.value ≡ read_value t place) × (result.timer ≡ read_timer t place) }
 {

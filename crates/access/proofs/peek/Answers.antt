@@ -2,7 +2,6 @@ use Rattle.timer.proofs.Outcomes.{turned-away, sync-asked, kept, in-time, plainl
 use Rattle.timer.specs.declared.calls.Call.TheVariants as call
 use Rattle.timer.specs.Calls.{asks, works, says, refusal_of}
 use mathlib.Core.Path.{refl, sym, ◌∙◌}
-use borrow.Author.Rules.{rules}
 use Rattle.access.proofs.peek.Goals as goal
 
 pub refusal-n-requires : goal.refusal-n-requires

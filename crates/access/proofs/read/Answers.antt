@@ -4,7 +4,6 @@ use Rattle.counter.specs.Registers.{read_timer, read_value}
 use Rattle.timer.specs.declared.calls.Call.TheVariants as call
 use Rattle.timer.specs.Calls.{asks, works, says, refusal_of}
 use mathlib.Core.Path.{refl, sym, ap, ◌∙◌}
-use borrow.Author.Rules.{rules}
 use Rattle.access.proofs.read.Goals as goal
 
 pub refusal-n-requires : goal.refusal-n-requires

@@ -3,7 +3,6 @@ use Prim.Native.Nat.{◌<◌}
 use Rattle.timer.specs.declared.calls.Call.TheVariants as call
 use Rattle.timer.specs.Calls.{asks, works, says, refusal_of}
 use mathlib.Core.Path.{refl, sym, ◌∙◌}
-use borrow.Author.Rules.{rules}
 use Rattle.access.proofs.write.Goals as goal
 
 pub refusal-n-requires : goal.refusal-n-requires

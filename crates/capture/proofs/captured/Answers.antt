@@ -1,5 +1,4 @@
 use mathlib.Core.Path.{refl}
-use borrow.Author.Rules.{rules}
 use Rattle.counter.proofs.Logging.{logs-captured}
 use Rattle.counter.proofs.Advances.{setting-is}
 use Rattle.capture.proofs.captured.Goals as goal

@@ -1,5 +1,4 @@
 use Rattle.counter.specs.Capture.{captures}
-use borrow.Author.Rules.{rules}
 use Rattle.capture.proofs.captures.Goals as goal
 
 pub returns : goal.returns

@@ -1,4 +1,3 @@
-use borrow.Author.Rules.{rules}
 use Rattle.counter.specs.Capture.{ticks_on}
 use Rattle.capture.proofs.ticks_on.Goals as goal
 

@@ -3,7 +3,6 @@ use Rattle.timer.proofs.Accepted.{call-accepted}
 use Rattle.timer.specs.declared.calls.Call.TheVariants as call
 use Rattle.timer.specs.Calls.{asks, refusal_of}
 use mathlib.Core.Path.{sym, ◌∙◌}
-use borrow.Author.Rules.{rules}
 use Rattle.elapse.proofs.advance.Goals as goal
 
 pub returns-then-n-ne0 : goal.returns-then-n-ne0

@@ -1,7 +1,6 @@
 use mathlib.Core.Path.{refl}
 use Rattle.timer.proofs.Outcomes.{turned-away, at_once, plainly}
 use Rattle.timer.specs.Calls.{asks, works, says, refusal_of}
-use borrow.Author.Rules.{rules}
 use Rattle.elapse.proofs.next.Goals as goal
 
 pub refusal-n-requires : goal.refusal-n-requires

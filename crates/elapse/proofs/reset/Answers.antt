@@ -1,7 +1,6 @@
 use Rattle.timer.proofs.Outcomes.{late-alone, turned-away, at_once, filed}
 use Rattle.timer.specs.Calls.{asks, works, says, refusal_of}
 use mathlib.Core.Path.{refl, sym, ◌∙◌}
-use borrow.Author.Rules.{rules}
 use Rattle.elapse.proofs.reset.Goals as goal
 
 pub returns-then-n-ne0 : goal.returns-then-n-ne0

@@ -1,6 +1,5 @@
 use Rattle.timer.proofs.Outcomes.{turned-away, changing, turn-asked, turned, unturned}
 use Rattle.timer.specs.Calls.{asks, refusal_of}
-use borrow.Author.Rules.{rules}
 use Rattle.halting.proofs.tsm.Goals as goal
 
 pub refusal-n-requires : goal.refusal-n-requires

@@ -2,7 +2,6 @@ use Rattle.timer.proofs.Outcomes.{wakes, wakes-not, turned-away, wake-asked, at_
 use Rattle.timer.specs.declared.calls.Call.TheVariants as call
 use Rattle.timer.specs.Calls.{asks, works, says, refusal_of}
 use mathlib.Core.Path.{refl, sym, ◌∙◌}
-use borrow.Author.Rules.{rules}
 use Rattle.halting.proofs.wake.Goals as goal
 
 pub refusal-n-requires : goal.refusal-n-requires

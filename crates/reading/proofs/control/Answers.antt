@@ -1,6 +1,5 @@
 use Rattle.counter.specs.Registers.{control_of}
 use borrow.Author.Tests.{ne_eqb}
-use borrow.Author.Rules.{rules}
 use Rattle.reading.proofs.control.Goals as goal
 
 pub returns-then-is_split : goal.returns-then-is_split

@@ -1,6 +1,5 @@
 use Rattle.counter.specs.Registers.{packed}
 use mathlib.Core.Path.{refl}
-use borrow.Author.Rules.{rules}
 use Rattle.reading.proofs.packed.Goals as goal
 
 pub returns : goal.returns

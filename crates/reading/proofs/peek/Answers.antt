@@ -1,7 +1,6 @@
 use Rattle.counter.specs.Registers.{peeked}
 use borrow.Author.Tests.{le-leb, lt-leb, eq-eqb, ne_eqb}
 use native.Mathlib.Omega.{arith}
-use borrow.Author.Rules.{rules}
 use Rattle.reading.proofs.peek.Goals as goal
 
 pub returns-then-place-eq1 : goal.returns-then-place-eq1

@@ -1,5 +1,4 @@
 use mathlib.Core.Path.{sym, ◌∙◌}
-use borrow.Author.Rules.{rules}
 use Rattle.answers.specs.Refusals.{is_due}
 use Rattle.answers.proofs.refusals.is_due.Goals as goal
 

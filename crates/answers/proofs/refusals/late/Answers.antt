@@ -1,5 +1,4 @@
 use Rattle.answers.specs.Refusals.{late}
-use borrow.Author.Rules.{rules}
 use Rattle.answers.proofs.refusals.late.Goals as goal
 
 pub returns : goal.returns

@@ -1,6 +1,5 @@
 use Rattle.answers.specs.Refusals.{refusal}
 use borrow.Author.Tests.{ne_eqb}
-use borrow.Author.Rules.{rules}
 use Rattle.answers.proofs.refusals.refusal.Goals as goal
 
 pub is_due-requires : goal.is_due-requires

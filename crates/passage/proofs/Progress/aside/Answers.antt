@@ -1,4 +1,3 @@
-use borrow.Author.Rules.{rules}
 use Rattle.passage.proofs.Loops.{near-sound, event-sound, made}
 use Rattle.passage.proofs.Progress.aside.Goals as goal
 

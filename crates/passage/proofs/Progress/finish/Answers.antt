@@ -1,7 +1,7 @@
 use Prim.Native.Nat.{◌-◌, ◌<◌}
 use native.Mathlib.Omega.{arith}
-use mathlib.Core.Path.{◌≡◌, refl, ◌∙◌}
-use Rattle.passage.proofs.Loops.{Going, begins, gap-small, aside-ready, wrote, halted, ended}
+use mathlib.Core.Path.{refl}
+use Rattle.passage.proofs.Loops.{begins, gap-small, aside-ready, wrote, halted, ended}
 use Rattle.passage.proofs.Progress.finish.Goals as goal
 
 pub loop-r-init : goal.loop-r-init

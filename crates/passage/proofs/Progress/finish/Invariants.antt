@@ -1,7 +1,6 @@
-use Prim.Native.Nat.{◌-◌, ◌<◌}
-use native.Mathlib.Omega.{arith}
-use mathlib.Core.Path.{◌≡◌, refl, ◌∙◌}
-use Rattle.passage.proofs.Loops.{Going, begins, gap-small, aside-ready, wrote, halted, ended}
+use Prim.Native.Nat.{◌-◌}
+use mathlib.Core.Path.{◌≡◌}
+use Rattle.passage.proofs.Loops.{Going}
 use Rattle.passage.proofs.Progress.finish.Given as goal
 
 abbrev pub invariant-loop-r : goal.invariant-loop-r

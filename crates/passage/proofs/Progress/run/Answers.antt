@@ -1,9 +1,8 @@
 use Prim.Native.Nat.{◌+◌, ◌-◌, ◌<◌, ◌≤◌}
 use native.Mathlib.Omega.{arith}
-use mathlib.Core.Path.{◌≡◌, refl, ◌∙◌}
+use mathlib.Core.Path.{refl, ◌∙◌}
 use lib.ListN.{length}
-use borrow.Author.Rules.{rules}
-use Rattle.passage.proofs.Loops.{Lags, lags-begin, lags-sound, lags-gap, lags-near, lags-event, lags-turn, goes, gap-small, near-cycle, ran}
+use Rattle.passage.proofs.Loops.{lags-begin, lags-sound, lags-gap, lags-near, lags-event, lags-turn, goes, gap-small, near-cycle, ran}
 use Rattle.passage.proofs.Progress.run.Goals as goal
 
 pub loop-gap-init : goal.loop-gap-init

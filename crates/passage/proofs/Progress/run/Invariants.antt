@@ -1,9 +1,6 @@
-use Prim.Native.Nat.{◌+◌, ◌-◌, ◌<◌, ◌≤◌}
-use native.Mathlib.Omega.{arith}
-use mathlib.Core.Path.{◌≡◌, refl, ◌∙◌}
-use lib.ListN.{length}
-use borrow.Author.Rules.{rules}
-use Rattle.passage.proofs.Loops.{Lags, lags-begin, lags-sound, lags-gap, lags-near, lags-event, lags-turn, goes, gap-small, near-cycle, ran}
+use Prim.Native.Nat.{◌-◌}
+use mathlib.Core.Path.{◌≡◌}
+use Rattle.passage.proofs.Loops.{Lags}
 use Rattle.passage.proofs.Progress.run.Given as goal
 
 abbrev pub invariant-loop-gap : goal.invariant-loop-gap

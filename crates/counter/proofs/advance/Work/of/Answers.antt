@@ -1,5 +1,4 @@
 use Rattle.counter.proofs.Advances.{paused-work}
-use borrow.Author.Rules.{rules}
 use Rattle.counter.proofs.advance.Work.of.Goals as goal
 
 pub returns-then-f : goal.returns-then-f

@@ -1,4 +1,3 @@
-use borrow.Author.Rules.{rules}
 use Rattle.counter.proofs.state.Timer.accepted.Goals as goal
 
 pub returns : goal.returns

@@ -1,4 +1,3 @@
-use borrow.Author.Rules.{rules}
 use Rattle.counter.proofs.Advances.{advances}
 use Rattle.counter.proofs.state.Timer.advance.Goals as goal
 

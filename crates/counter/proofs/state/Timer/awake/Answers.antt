@@ -1,5 +1,4 @@
 use Rattle.counter.specs.Halts.{awake_at}
-use borrow.Author.Rules.{rules}
 use Rattle.counter.proofs.state.Timer.awake.Goals as goal
 
 pub returns : goal.returns

@@ -1,6 +1,5 @@
 use mathlib.Core.Path.{sym}
 use native.Mathlib.Omega.{arith}
-use borrow.Author.Rules.{rules}
 use Rattle.counter.proofs.Bounds.{sync-unchosen, sync-falling, sync-rising, timer2-unchosen}
 use Rattle.counter.proofs.state.Timer.chosen.Goals as goal
 

@@ -1,7 +1,6 @@
 use Rattle.counter.specs.Registers.{commit}
 use borrow.Author.Tests.{le-leb, lt-leb}
 use native.Mathlib.Omega.{arith}
-use borrow.Author.Rules.{rules}
 use Rattle.counter.proofs.state.Timer.commit.Goals as goal
 
 pub returns-in-0-to-1 : goal.returns-in-0-to-1

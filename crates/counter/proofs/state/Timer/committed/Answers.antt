@@ -1,5 +1,4 @@
 use Rattle.counter.specs.Registers.{committed}
-use borrow.Author.Rules.{rules}
 use Rattle.counter.proofs.state.Timer.committed.Goals as goal
 
 pub returns-then-config : goal.returns-then-config

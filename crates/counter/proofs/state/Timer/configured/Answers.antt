@@ -1,6 +1,5 @@
 use Rattle.counter.specs.Registers.{stored, configured}
 use mathlib.Core.Path.{sym, ◌∙◌}
-use borrow.Author.Rules.{rules}
 use Rattle.counter.proofs.state.Timer.configured.Goals as goal
 
 pub returns-then-immediate : goal.returns-then-immediate

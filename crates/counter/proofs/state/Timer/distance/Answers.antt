@@ -1,5 +1,4 @@
 use mathlib.Core.Path.{◌∙◌}
-use borrow.Author.Rules.{rules}
 use Rattle.counter.proofs.Advances.{setting-is}
 use Rattle.counter.proofs.Bounds.{valid-sound}
 use Rattle.counter.proofs.state.Timer.distance.Goals as goal

@@ -1,4 +1,3 @@
-use borrow.Author.Rules.{rules}
 use Rattle.counter.specs.Modes.{divisor_of}
 use Rattle.counter.proofs.state.Timer.divisor.Goals as goal
 

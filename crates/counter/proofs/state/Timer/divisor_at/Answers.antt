@@ -1,6 +1,5 @@
 use mathlib.Core.Path.{sym}
 use native.Mathlib.Omega.{arith}
-use borrow.Author.Rules.{rules}
 use Rattle.counter.proofs.Bounds.{sync-divides, sync-undivided, timer2-divides}
 use Rattle.counter.proofs.state.Timer.divisor_at.Goals as goal
 

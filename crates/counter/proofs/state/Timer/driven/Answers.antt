@@ -1,7 +1,6 @@
 use Rattle.counter.proofs.Logging.{logs-driven}
 use Rattle.counter.proofs.Advances.{setting-is}
 use mathlib.Core.Path.{refl}
-use borrow.Author.Rules.{rules}
 use Rattle.counter.proofs.state.Timer.driven.Goals as goal
 
 pub returns : goal.returns

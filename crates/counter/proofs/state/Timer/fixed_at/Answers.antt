@@ -1,4 +1,3 @@
-use borrow.Author.Rules.{rules}
 use Rattle.counter.specs.Modes.{fixed_at}
 use Rattle.counter.proofs.Bounds.{in-wide, in-narrow}
 use Rattle.counter.proofs.state.Timer.fixed_at.Goals as goal

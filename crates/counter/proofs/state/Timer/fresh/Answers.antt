@@ -1,5 +1,4 @@
 use Rattle.counter.specs.Fresh.{fresh_of}
-use borrow.Author.Rules.{rules}
 use Rattle.counter.proofs.state.Timer.fresh.Goals as goal
 
 pub returns : goal.returns

@@ -1,6 +1,5 @@
 use Rattle.counter.specs.Halts.{halting}
 use mathlib.Core.Path.{refl}
-use borrow.Author.Rules.{rules}
 use Rattle.counter.proofs.state.Timer.halts_in.Goals as goal
 
 pub returns : goal.returns

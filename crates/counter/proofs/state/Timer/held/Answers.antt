@@ -1,4 +1,3 @@
-use borrow.Author.Rules.{rules}
 use Rattle.counter.specs.Modes.{held_of}
 use Rattle.counter.proofs.state.Timer.held.Goals as goal
 

@@ -1,5 +1,4 @@
 use Rattle.counter.specs.Registers.{immediate}
-use borrow.Author.Rules.{rules}
 use Rattle.counter.proofs.state.Timer.immediate.Goals as goal
 
 pub returns : goal.returns

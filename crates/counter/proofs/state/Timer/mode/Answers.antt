@@ -1,4 +1,3 @@
-use borrow.Author.Rules.{rules}
 use Rattle.counter.specs.Modes.{mode_of}
 use Rattle.counter.proofs.state.Timer.mode.Goals as goal
 

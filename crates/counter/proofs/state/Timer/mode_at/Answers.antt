@@ -1,5 +1,4 @@
 use native.Mathlib.Omega.{arith}
-use borrow.Author.Rules.{rules}
 use Rattle.counter.specs.Modes.{mode_at}
 use Rattle.counter.proofs.state.Timer.mode_at.Goals as goal
 

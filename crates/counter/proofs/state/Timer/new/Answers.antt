@@ -2,7 +2,6 @@ use mathlib.Core.Path.{sym, ◌∙◌}
 use Rattle.config.specs.Config.{least, least-accepted}
 use Rattle.counter.specs.Fresh.{started_of}
 use Rattle.counter.proofs.Keeps.{fresh-is-valid}
-use borrow.Author.Rules.{rules}
 use Rattle.counter.proofs.state.Timer.new.Goals as goal
 
 pub returns-then-is_accepted : goal.returns-then-is_accepted

@@ -1,5 +1,4 @@
 use mathlib.Core.Path.{sym, ◌∙◌}
-use borrow.Author.Rules.{rules}
 use Rattle.counter.specs.Next.{next_of}
 use Rattle.counter.proofs.state.Timer.next.Goals as goal
 

@@ -1,5 +1,4 @@
 use mathlib.Core.Path.{◌∙◌}
-use borrow.Author.Rules.{rules}
 use Rattle.counter.specs.Modes.{wave_of}
 use Rattle.counter.proofs.Clocks.{running-divides}
 use Rattle.counter.proofs.Steps.{Parts, next-tick, next-is, next-cycle}

@@ -1,4 +1,3 @@
-use borrow.Author.Rules.{rules}
 use Rattle.counter.specs.Next.{next_flags}
 use Rattle.counter.proofs.state.Timer.next_flags.Goals as goal
 

@@ -1,5 +1,4 @@
 use Rattle.counter.specs.Halts.{reduced_to}
-use borrow.Author.Rules.{rules}
 use Rattle.counter.proofs.state.Timer.reduced.Goals as goal
 
 pub returns : goal.returns

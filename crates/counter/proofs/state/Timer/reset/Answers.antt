@@ -1,6 +1,5 @@
 use Rattle.counter.specs.Halts.{reset_at}
 use Rattle.counter.specs.Fresh.{fresh_of}
-use borrow.Author.Rules.{rules}
 use Rattle.counter.proofs.state.Timer.reset.Goals as goal
 
 pub returns : goal.returns

@@ -1,5 +1,4 @@
 use Rattle.counter.specs.Halts.{routed_to}
-use borrow.Author.Rules.{rules}
 use Rattle.counter.proofs.state.Timer.routed.Goals as goal
 
 pub returns : goal.returns

@@ -1,4 +1,3 @@
-use borrow.Author.Rules.{rules}
 use Rattle.counter.specs.Modes.{running_of}
 use Rattle.counter.proofs.state.Timer.running.Goals as goal
 

@@ -1,4 +1,3 @@
-use borrow.Author.Rules.{rules}
 use Rattle.counter.specs.Setting.{setting_at}
 use Rattle.counter.proofs.state.Timer.setting.Goals as goal
 

@@ -1,5 +1,4 @@
 use borrow.Author.Tests.{ne_eqb}
-use borrow.Author.Rules.{rules}
 use Rattle.counter.specs.Registers.{stored_a}
 use Rattle.counter.proofs.state.Timer.stored_tccra.Goals as goal
 

@@ -1,5 +1,4 @@
 use Rattle.counter.specs.Registers.{strobes}
-use borrow.Author.Rules.{rules}
 use Rattle.counter.proofs.state.Timer.strobes.Goals as goal
 
 pub returns-then-config-address : goal.returns-then-config-address

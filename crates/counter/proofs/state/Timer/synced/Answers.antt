@@ -1,5 +1,4 @@
 use Rattle.counter.specs.Passage.{sync_to}
-use borrow.Author.Rules.{rules}
 use Rattle.counter.proofs.state.Timer.synced.Goals as goal
 
 pub returns : goal.returns

@@ -1,5 +1,4 @@
 use mathlib.Core.Path.{◌≡◌}
-use borrow.Author.Rules.{rules}
 use Rattle.counter.specs.Setting.{setting_of}
 use Rattle.counter.proofs.Bounds.{valid-sound}
 use Rattle.counter.proofs.Advances.{setting-is, strikes}

@@ -1,4 +1,3 @@
-use borrow.Author.Rules.{rules}
 use Rattle.counter.specs.Modes.{wave_of}
 use Rattle.counter.proofs.state.Timer.wave_at.Goals as goal
 

@@ -1,5 +1,4 @@
 use Rattle.counter.specs.Registers.{compare_to}
-use borrow.Author.Rules.{rules}
 use Rattle.counter.proofs.state.Timer.with_compare.Goals as goal
 
 pub returns-then-immediate : goal.returns-then-immediate

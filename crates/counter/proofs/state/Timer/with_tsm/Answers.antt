@@ -1,5 +1,4 @@
 use Rattle.counter.specs.Halts.{tsm_to}
-use borrow.Author.Rules.{rules}
 use Rattle.counter.proofs.state.Timer.with_tsm.Goals as goal
 
 pub returns : goal.returns

@@ -2,7 +2,6 @@ use Rattle.counter.proofs.Logging.{logs-none}
 use Rattle.counter.specs.Registers.{written}
 use borrow.Author.Tests.{le-leb, lt-leb, eq-eqb, ne_eqb}
 use native.Mathlib.Omega.{arith}
-use borrow.Author.Rules.{rules}
 use Rattle.counter.proofs.state.Timer.write.Goals as goal
 
 pub returns-in-10 : goal.returns-in-10

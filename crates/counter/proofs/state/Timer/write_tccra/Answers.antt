@@ -1,5 +1,4 @@
 use Rattle.counter.specs.Registers.{written_a}
-use borrow.Author.Rules.{rules}
 use Rattle.counter.proofs.state.Timer.write_tccra.Goals as goal
 
 pub returns-then-is_split : goal.returns-then-is_split

@@ -1,7 +1,6 @@
 use mathlib.Core.Path.{◌≡◌}
 use lib.Bits.{bit_and}
 use Rattle.counter.specs.Registers.{stored_b, written_b}
-use borrow.Author.Rules.{rules}
 use Rattle.counter.proofs.state.Timer.write_tccrb.Goals as goal
 
 pub returns-then-config : goal.returns-then-config
