@@ -10,7 +10,7 @@ use lib.Seq.{sets}
 use borrow.Author.Tests.{eqb-true, eqb-false, not-false}
 use Rattle.time.specs.Units.{ticks_at, cycle_at}
 use Rattle.wave.specs.declared.kinds.Wave.{Wave}
-use Rattle.wave.specs.Kinds.{A, I}
+use Rattle.wave.specs.Kinds.{I}
 use Rattle.wave.specs.Count.{falls, top_of, at_top, at_zero, overflows, loads}
 use Rattle.wave.specs.Distance.{gap}
 use Rattle.tick.specs.Distance.{flags_ahead}

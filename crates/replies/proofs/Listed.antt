@@ -1,14 +1,13 @@
 -- What `listed` promises, of what its callees do.
 use Prim.Native.Nat.{ℕ}
 use mathlib.Core.List.{List}
-use mathlib.Core.Path.{◌≡◌, refl}
+use mathlib.Core.Path.{◌≡◌}
 use Rattle.answers.specs.declared.Answer.{Answer}
 use Rattle.held.specs.declared.calls.Called.{Called}
 use Rattle.held.specs.Reply.{Holds}
 use Rattle.held.proofs.Answers.{told-serves}
 use Rattle.writes.specs.declared.Written.{Written}
 use Rattle.writes.specs.Writes.{Listed, Lists, reason_of}
-use Rattle.replies.specs.declared.lists.Ended.{Ended}
 use Rattle.replies.specs.Lists.{Ends}
 
 -- the core's list, its timer held and its reason in numbers

@@ -3,7 +3,7 @@ use Prim.Native.Nat.{ℕ, ◌+◌, ◌%◌, ◌≤◌, ◌<◌}
 use native.Mathlib.Omega.{arith}
 use native.Mathlib.Nat.{mod-eq_of_lt, zero-add}
 use mathlib.Core.Path.{◌≡◌, refl, sym, ap, subst, ◌∙◌}
-use mathlib.Core.Bool.{Bool, true, false, cond, not, ◌&&◌, ◌||◌}
+use mathlib.Core.Bool.{Bool, true, false, cond, not}
 use mathlib.Core.List.{List}
 use lib.Dec.{eqb, leb}
 use lib.ListN.{length, take}
@@ -18,7 +18,7 @@ use Rattle.counter.specs.declared.advance.Logged.{Logged}
 use Rattle.counter.specs.declared.state.Timer.{Timer}
 use Rattle.counter.specs.Halts.{latest_to}
 use Rattle.counter.specs.Logs.{Noted, silent, Logs}
-use Rattle.counter.specs.Modes.{mode_of, wave_of}
+use Rattle.counter.specs.Modes.{wave_of}
 use Rattle.counter.specs.Registers.{is_high, immediate, commit, stored, configured, driven, written_a, written_b, written}
 use Rattle.counter.specs.Setting.{setting_at}
 use Rattle.counter.specs.Valid.{Valid}
@@ -27,13 +27,13 @@ use Rattle.answers.specs.declared.Outcome.{Outcome}
 use Rattle.answers.specs.Answers.{Tells, Filed}
 use Rattle.timer.specs.declared.calls.Call.{Call}
 use Rattle.timer.specs.declared.calls.Call.TheVariants as call
-use Rattle.timer.specs.Calls.{answered, asks, works, says, refusal_of}
+use Rattle.timer.specs.Calls.{answered, asks, works, says}
 use Rattle.timer.proofs.Outcomes.{Ready, plainly, filed, written_is}
 use Rattle.held.specs.declared.state.Held.{Held}
 use Rattle.held.specs.Held.{Kept}
 use Rattle.held.specs.Quick.{stilled, Passing}
 use Rattle.held.proofs.Answers.{Timed, refusal_is}
-use Rattle.held.proofs.Stills.{Quiet, quiet-in, still-asks, stored-kept}
+use Rattle.held.proofs.Stills.{quiet-in, still-asks, stored-kept}
 use Rattle.serving.specs.Asks.{asks_in}
 use Rattle.serving.specs.Looking.{refused_by, stilled_in, passed_of}
 use Rattle.rewriting.specs.Writing.{Takes}

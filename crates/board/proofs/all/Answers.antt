@@ -1,3 +1,4 @@
+use native.Mathlib.Omega.{arith}
 use Rattle.board.proofs.Outcomes.{all-refused, all-taken}
 use Rattle.board.proofs.all.Goals as goal
 
@@ -8,4 +9,4 @@ pub with_all-board-requires : goal.with_all-board-requires
 with_all-board-requires c = (c.requires, c.reach-x.ensures.valid, c.reach-y.ensures.valid, c.reach-z.ensures.valid)
 
 pub returns : goal.returns
-returns c = all-taken _ _ _ _ _ c.requires c.reach-x.ensures c.reach-y.ensures c.reach-z.ensures c.number.ensures c.number-2.ensures c.number-3.ensures c.lowest.ensures c.lowest-n.ensures c.if-n-ne0.false c.with_all-board.ensures
+returns c = all-taken _ _ _ _ _ c.requires c.reach-x.ensures c.reach-y.ensures c.reach-z.ensures c.number.ensures c.number-2.ensures c.number-3.ensures c.lowest.ensures c.lowest-n.ensures (omega arith) c.with_all-board.ensures

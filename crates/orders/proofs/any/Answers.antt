@@ -1,5 +1,4 @@
 use Rattle.orders.proofs.Obeyed.{known_tells, unknown-tells}
-use borrow.Author.Rules.{rules}
 use Rattle.orders.proofs.any.Goals as goal
 
 pub returns-in-Known : goal.returns-in-Known

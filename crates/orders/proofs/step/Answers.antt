@@ -1,5 +1,4 @@
 use Rattle.orders.proofs.Obeyed.{obeys}
-use borrow.Author.Rules.{rules}
 use Rattle.orders.proofs.step.Goals as goal
 
 pub numbered-requires : goal.numbered-requires

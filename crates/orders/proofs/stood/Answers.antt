@@ -1,4 +1,3 @@
-use borrow.Author.Rules.{rules}
 use Rattle.orders.proofs.stood.Goals as goal
 
 pub returns : goal.returns

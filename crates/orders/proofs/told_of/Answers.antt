@@ -1,4 +1,3 @@
-use borrow.Author.Rules.{rules}
 use Rattle.held.specs.Held.{code_of, flags_in}
 use Rattle.orders.proofs.told_of.Goals as goal
 

@@ -1,7 +1,6 @@
 use Prim.Native.Nat.{◌<◌}
 use Rattle.held.proofs.Answers.{told-serves}
 use Rattle.rewriting.proofs.Writes.{commit-tells, passes, left-valid}
-use borrow.Author.Rules.{rules}
 use Rattle.rewriting.proofs.committing.Goals as goal
 
 pub passed-s-requires : goal.passed-s-requires

@@ -1,8 +1,7 @@
 use Prim.Native.Nat.{◌<◌}
-use mathlib.Core.Path.{◌≡◌, sym, ◌∙◌}
+use mathlib.Core.Path.{sym, ◌∙◌}
 use Rattle.held.proofs.Answers.{told-serves}
 use Rattle.rewriting.proofs.Writes.{files, force-syncs, passes, left-valid}
-use borrow.Author.Rules.{rules}
 use Rattle.rewriting.proofs.forcing.Goals as goal
 
 pub passed-s-requires : goal.passed-s-requires

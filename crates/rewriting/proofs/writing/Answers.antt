@@ -3,7 +3,6 @@ use native.Mathlib.Omega.{arith}
 use mathlib.Core.Path.{◌≡◌, subst}
 use Rattle.held.specs.declared.state.Held.{Held}
 use Rattle.rewriting.specs.Writing.{Takes}
-use borrow.Author.Rules.{rules}
 use Rattle.rewriting.proofs.writing.Goals as goal
 
 last : {h : Held} {place cycle : ℕ} → Takes h place cycle → 12 ≤ place → place ≡ 12

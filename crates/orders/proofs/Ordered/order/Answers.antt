@@ -1,7 +1,6 @@
 use Rattle.orders.proofs.Obeyed.{nobody, further}
 use mathlib.Core.Path.{sym}
 use native.Mathlib.Omega.{arith}
-use borrow.Author.Rules.{rules}
 use Rattle.orders.proofs.Ordered.order.Goals as goal
 
 pub returns-in-0 : goal.returns-in-0

@@ -1,5 +1,4 @@
 use mathlib.Core.Path.{refl}
-use borrow.Author.Rules.{rules}
 use Rattle.renewing.specs.Edges.{catches_of}
 use Rattle.renewing.proofs.edges.catches.Goals as goal
 

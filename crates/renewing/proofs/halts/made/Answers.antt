@@ -1,4 +1,3 @@
-use borrow.Author.Rules.{rules}
 use borrow.Author.Tests.{ne_eqb}
 use Rattle.renewing.specs.Halts.{turned_of}
 use Rattle.renewing.proofs.halts.made.Goals as goal

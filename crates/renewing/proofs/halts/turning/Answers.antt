@@ -1,7 +1,6 @@
 use mathlib.Core.Bool.{not}
 use mathlib.Core.Path.{◌≡◌, subst}
 use lib.Dec.{eqb}
-use borrow.Author.Rules.{rules}
 use Rattle.counter.specs.declared.state.Timer.{Timer}
 use Rattle.held.specs.Held.{Foresees}
 use Rattle.renewing.proofs.Turns.{left, passing-asks, waking-asks, passed-keeps, turned-valid, scene-stands, top-stands, down-stands, turned-serves}

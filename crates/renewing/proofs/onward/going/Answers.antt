@@ -1,4 +1,3 @@
-use borrow.Author.Rules.{rules}
 use Rattle.renewing.proofs.Goes.{late-serves, work-asks, foreseen-asks, stop-serves, come-serves}
 use Rattle.renewing.proofs.onward.going.Goals as goal
 

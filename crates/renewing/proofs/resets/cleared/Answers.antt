@@ -1,5 +1,4 @@
 use Rattle.renewing.specs.Resets.{cleared_of}
-use borrow.Author.Rules.{rules}
 use Rattle.renewing.proofs.resets.cleared.Goals as goal
 
 pub returns : goal.returns

@@ -1,6 +1,5 @@
 use Rattle.renewing.proofs.Renews.{reset-right}
 use mathlib.Core.Path.{refl}
-use borrow.Author.Rules.{rules}
 use Rattle.renewing.proofs.resets.resetting.Goals as goal
 
 pub returns : goal.returns

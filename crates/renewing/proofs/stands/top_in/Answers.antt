@@ -1,4 +1,3 @@
-use borrow.Author.Rules.{rules}
 use Rattle.renewing.proofs.stands.top_in.Goals as goal
 
 pub returns-then-follows : goal.returns-then-follows

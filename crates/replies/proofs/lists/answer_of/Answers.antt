@@ -1,4 +1,3 @@
-use borrow.Author.Rules.{rules}
 use Rattle.replies.proofs.lists.answer_of.Goals as goal
 
 pub returns-in-Paused : goal.returns-in-Paused

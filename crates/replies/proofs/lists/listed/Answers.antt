@@ -1,5 +1,4 @@
 use Rattle.replies.proofs.Listed.{ends}
-use borrow.Author.Rules.{rules}
 use Rattle.replies.proofs.lists.listed.Goals as goal
 
 pub holding-c-requires : goal.holding-c-requires

@@ -1,5 +1,4 @@
 use mathlib.Core.Path.{ap, ◌∙◌}
-use borrow.Author.Rules.{rules}
 use Rattle.shift.proofs.Determined.{answer-is}
 use Rattle.replies.specs.Shifts.{shifted_of}
 use Rattle.replies.proofs.shifts.later.Goals as goal

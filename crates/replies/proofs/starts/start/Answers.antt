@@ -1,6 +1,5 @@
 use mathlib.Core.Path.{refl}
 use Rattle.replies.proofs.Begun.{begins}
-use borrow.Author.Rules.{rules}
 use Rattle.replies.proofs.starts.start.Goals as goal
 
 pub held_of-timer-requires : goal.held_of-timer-requires

@@ -1,4 +1,3 @@
-use borrow.Author.Rules.{rules}
 use Rattle.replies.proofs.watchdogs.reported.Goals as goal
 
 pub returns : goal.returns

@@ -1,5 +1,4 @@
 use Rattle.replies.proofs.Reported.{reports}
-use borrow.Author.Rules.{rules}
 use Rattle.replies.proofs.watchdogs.written.Goals as goal
 
 pub returns : goal.returns
