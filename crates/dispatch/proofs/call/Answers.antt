@@ -1,4 +1,3 @@
-use borrow.Author.Rules.{rules}
 use Rattle.dispatch.proofs.call.Goals as goal
 
 pub advance-requires : goal.advance-requires

@@ -3,7 +3,6 @@ use Rattle.timer.specs.Calls.{output_captures}
 use Rattle.timer.specs.declared.calls.Call.TheVariants as call
 use Rattle.timer.specs.Calls.{asks, works, says, refusal_of}
 use mathlib.Core.Path.{refl, sym, ◌∙◌}
-use borrow.Author.Rules.{rules}
 use Rattle.dispatch.proofs.output.Goals as goal
 
 pub refusal-n-requires : goal.refusal-n-requires

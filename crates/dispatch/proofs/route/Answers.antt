@@ -1,7 +1,6 @@
 use Rattle.timer.proofs.Outcomes.{routes, routes-not, turned-away, at_once, plainly}
 use Rattle.timer.specs.Calls.{asks, works, says, refusal_of}
 use mathlib.Core.Path.{refl}
-use borrow.Author.Rules.{rules}
 use Rattle.dispatch.proofs.route.Goals as goal
 
 pub refusal-n-requires : goal.refusal-n-requires
