@@ -1,5 +1,5 @@
 /* What crates/shell and crates/doorlog export, with the timer of crates/counter, its configuration of crates/config, the watchdog of crates/oscillator,
- * the board of crates/board and the log of crates/log, for C and C++ on x86-64. Doors, logs and dumps are in libdoorlog.a, the rest is in libshell.a. */
+ * the board of crates/board and the log of crates/record_ring, for C and C++ on x86-64. Doors, logs and dumps are in libdoorlog.a, the rest is in libshell.a. */
 #ifndef PADDLEMAUVE_H
 #define PADDLEMAUVE_H
 

@@ -1,5 +1,5 @@
 //! What `crates/shell` and `crates/doorlog` export, in C's layout: the configuration of `crates/config`, the timer of `crates/counter`, the
-//! watchdog of `crates/oscillator`, the held timer and the reply of `crates/held`, the board of `crates/board`, the log of `crates/log`, and the structs that the two crates name themselves.
+//! watchdog of `crates/oscillator`, the held timer and the reply of `crates/held`, the board of `crates/board`, the log of `crates/record_ring`, and the structs that the two crates name themselves.
 
 use std::mem::MaybeUninit;
 
