@@ -1,13 +1,12 @@
 // A fixed history of 840 calls on one scheduler, drawn by a linear congruential generator over 80 keys. Each line has a
-// call with its arguments, its answer, and the earliest cycle after it.
+// call with its arguments, its answer, and the earliest cycle after it. A write that fails is passed over.
 
 #![tactic(auto)]
 
-ghost use Rattle.std.specs.Prelude.{◌<◌, ◌^◌, IfOk};
+ghost use Rattle.std.specs.Prelude.{◌<◌, ◌^◌};
 ghost use Rattle.scheduler.specs.Scheduler.{Valid};
 
 use scheduler::{Answer, Due, EventKey, Scheduled, Scheduler};
-use std::io;
 
 fn draw(seed: u64) -> u64
     requires { seed < 2 ^ 31 }
@@ -36,94 +35,88 @@ fn cycle_of(step: u64, seed: u64) -> u64
     }
 }
 
-fn put(rt: &impl Print, text: &[u8]) -> io::Result<()> {
-    rt.write_all(text)
+fn put(rt: &impl Print, text: &[u8]) {
+    let _ = rt.write_all(text);
 }
 
-fn put_number(rt: &impl Print, n: u64) -> io::Result<()> {
-    print!(rt; " {n}")
+fn put_number(rt: &impl Print, n: u64) {
+    let _ = print!(rt; " {n}");
 }
 
-fn put_key(rt: &impl Print, key: EventKey) -> io::Result<()> {
-    put_number(rt, key.owner as u64)?;
-    put_number(rt, key.tag as u64)
+fn put_key(rt: &impl Print, key: EventKey) {
+    put_number(rt, key.owner as u64);
+    put_number(rt, key.tag as u64);
 }
 
-fn at(rt: &impl Print, s: Scheduler, key: EventKey, cycle: u64) -> io::Result<Scheduler>
+fn at(rt: &impl Print, s: Scheduler, key: EventKey, cycle: u64) -> Scheduler
     requires { Valid s }
-    ensures { IfOk result Valid }
+    ensures { Valid result }
 {
-    put(rt, b"at")?;
-    put_key(rt, key)?;
-    put_number(rt, cycle)?;
+    put(rt, b"at");
+    put_key(rt, key);
+    put_number(rt, cycle);
     let set = s.at(key, cycle);
     let answer = set.answer;
     match answer {
-        Answer::Accepted => put_number(rt, 0)?,
-        Answer::Refused => put_number(rt, 11)?,
+        Answer::Accepted => put_number(rt, 0),
+        Answer::Refused => put_number(rt, 11),
     }
-    Ok(set.scheduler)
+    set.scheduler
 }
 
-fn cancel(rt: &impl Print, s: Scheduler, key: EventKey) -> io::Result<Scheduler>
+fn cancel(rt: &impl Print, s: Scheduler, key: EventKey) -> Scheduler
     requires { Valid s }
-    ensures { IfOk result Valid }
+    ensures { Valid result }
 {
-    put(rt, b"cancel")?;
-    put_key(rt, key)?;
-    Ok(s.cancel(key))
+    put(rt, b"cancel");
+    put_key(rt, key);
+    s.cancel(key)
 }
 
-fn is_scheduled(rt: &impl Print, s: Scheduler, key: EventKey) -> io::Result<Scheduler>
+fn is_scheduled(rt: &impl Print, s: Scheduler, key: EventKey) -> Scheduler
     requires { Valid s }
-    ensures { IfOk result Valid }
+    ensures { Valid result }
 {
-    put(rt, b"is")?;
-    put_key(rt, key)?;
+    put(rt, b"is");
+    put_key(rt, key);
     let scheduled = s.is_scheduled(key);
     match scheduled {
-        Scheduled::At(cycle) => put_number(rt, cycle)?,
-        Scheduled::Never => put(rt, b" never")?,
+        Scheduled::At(cycle) => put_number(rt, cycle),
+        Scheduled::Never => put(rt, b" never"),
     }
-    Ok(s)
+    s
 }
 
-fn pop_due(rt: &impl Print, s: Scheduler, now: u64) -> io::Result<Scheduler>
+fn pop_due(rt: &impl Print, s: Scheduler, now: u64) -> Scheduler
     requires { Valid s }
-    ensures { IfOk result Valid }
+    ensures { Valid result }
 {
-    put(rt, b"pop")?;
-    put_number(rt, now)?;
+    put(rt, b"pop");
+    put_number(rt, now);
     let pop = s.pop_due(now);
     let due = pop.due;
     match due {
         Due::Popped(event) => {
-            put_key(rt, event.key)?;
-            put_number(rt, event.cycle)?;
+            put_key(rt, event.key);
+            put_number(rt, event.cycle);
         }
-        Due::Nothing => put(rt, b" nothing")?,
+        Due::Nothing => put(rt, b" nothing"),
     }
-    Ok(pop.scheduler)
+    pop.scheduler
 }
 
-fn clear(rt: &impl Print, s: Scheduler) -> io::Result<Scheduler>
+fn clear(rt: &impl Print, s: Scheduler) -> Scheduler
     requires { Valid s }
-    ensures { IfOk result Valid }
+    ensures { Valid result }
 {
-    put(rt, b"clear")?;
-    Ok(s.clear())
+    put(rt, b"clear");
+    s.clear()
 }
 
 // A call while the scheduler fills up.
-fn filling(
-    rt: &impl Print,
-    s: Scheduler,
-    kind: u64,
-    key: EventKey,
-    cycle: u64,
-) -> io::Result<Scheduler>
+fn filling(rt: &impl Print, s: Scheduler, kind: u64, key: EventKey, cycle: u64) -> Scheduler
     requires { Valid s }
-    ensures { IfOk result Valid }
+    ensures { Valid result }
 {
     match kind {
         0 => cancel(rt, s, key),
@@ -141,9 +134,9 @@ fn emptying(
     key: EventKey,
     cycle: u64,
     step: u64,
-) -> io::Result<Scheduler>
+) -> Scheduler
     requires { Valid s }
-    ensures { IfOk result Valid }
+    ensures { Valid result }
 {
     match kind {
         0..=2 => at(rt, s, key, cycle),
@@ -159,9 +152,9 @@ fn emptying(
 }
 
 // The call of a step.
-fn call(rt: &impl Print, s: Scheduler, step: u64, seed: u64) -> io::Result<Scheduler>
+fn call(rt: &impl Print, s: Scheduler, step: u64, seed: u64) -> Scheduler
     requires { Valid s × (step < 840) }
-    ensures { IfOk result Valid }
+    ensures { Valid result }
 {
     let kind = seed / 65536 / 80 % 16;
     let key = key_of(seed);
@@ -173,23 +166,22 @@ fn call(rt: &impl Print, s: Scheduler, step: u64, seed: u64) -> io::Result<Sched
     }
 }
 
-fn put_next(rt: &impl Print, s: Scheduler) -> io::Result<()>
+fn put_next(rt: &impl Print, s: Scheduler)
     requires { Valid s }
 {
-    put(rt, b" next")?;
-    put_number(rt, s.next())?;
-    put(rt, b"\n")
+    put(rt, b" next");
+    put_number(rt, s.next());
+    put(rt, b"\n");
 }
 
-fn main(rt: HostRuntime) -> io::Result<()> {
+fn main(rt: HostRuntime) {
     let mut s = Scheduler::new();
     let mut seed = 1;
     let mut step = 0;
     while step < 840 {
         seed = draw(seed);
-        s = call(&rt, s, step, seed)?;
-        put_next(&rt, s)?;
+        s = call(&rt, s, step, seed);
+        put_next(&rt, s);
         step += 1;
     }
-    Ok(())
 }

@@ -33,7 +33,7 @@ fn check_chunks(from: Input, file: &mut Option<File>) -> Checked
 }
 
 // Opens a file and checks it.
-pub fn check_file<R: Files<File = File>>(rt: &R, path: &str) -> Checked
+pub fn check_file<R: Files<File = File>>(rt: &R, path: &[u8]) -> Checked
     ensures { Checks result.input result.check }
 {
     let Opened { input, mut file } = Input::open(rt, path);

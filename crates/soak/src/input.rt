@@ -42,23 +42,21 @@ impl Input {
         }
     }
 
-    // Opens a file.
-    pub fn open<R: Files<File = File>>(rt: &R, path: &str) -> Opened
+    // Opens a file; a path that is no UTF-8 is one that cannot be opened.
+    pub fn open<R: Files<File = File>>(rt: &R, path: &[u8]) -> Opened
         ensures { Opens result.input }
     {
-        match File::open(rt, path) {
-            Ok(file) => {
-                let input = Input::of(file.as_raw_fd());
-                Opened {
-                    input,
-                    file: Some(file),
-                }
-            }
-            Err(_) => {
-                let input = Input::of(-1);
-                Opened { input, file: None }
-            }
+        if let Ok(text) = std::str::from_utf8(path)
+            && let Ok(file) = File::open(rt, text)
+        {
+            let input = Input::of(file.as_raw_fd());
+            return Opened {
+                input,
+                file: Some(file),
+            };
         }
+        let input = Input::of(-1);
+        Opened { input, file: None }
     }
 
     // The input after a read, whose answer is negative where that failed.

@@ -57,7 +57,7 @@ fn write_number<W: Write>(number: u8, err: Output, to: &mut W) -> Output
 // Writes the dump of a file to `output`, or the number of the refusal to `error`: standard output and standard error, or what stands for them.
 pub fn dump_file<R: Files<File = File>, O: Write, E: Write>(
     rt: &R,
-    path: &str,
+    path: &[u8],
     output: &mut O,
     error: &mut E,
 ) -> Outcome

@@ -90,7 +90,7 @@ fn write_chunks<W: Write>(from: Input, file: &mut Option<File>, to: Output, out:
 // Opens a file again and writes its dump; nothing where it cannot be opened.
 pub fn write_file<R: Files<File = File>, W: Write>(
     rt: &R,
-    path: &str,
+    path: &[u8],
     check: Check,
     output: Output,
     out: &mut W,

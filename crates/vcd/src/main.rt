@@ -5,5 +5,5 @@
 fn main(rt: HostRuntime) {
     let mut output = rt.stdout();
     let mut error = rt.stderr();
-    soak::dump_file(&rt, "door.log", &mut output, &mut error);
+    soak::dump_file(&rt, b"door.log", &mut output, &mut error);
 }
