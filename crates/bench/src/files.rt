@@ -2,69 +2,62 @@
 
 use room::Room;
 use session::settles::NOT_WRITTEN;
+use std::fs::File;
+use std::io::Write;
+use std::rt::Files;
 use words::{FINE, NOT_OPENED};
 
-// No descriptor: records go nowhere.
-pub const NO_FILE: i32 = -1;
-
-// A descriptor, and what failed.
-#[derive(Clone, Copy)]
-pub struct File {
-    pub fd: i32,
-    pub why: u8,
+// Begins door.log anew in place of the file that records go to, which stays open where that fails; yields why it failed.
+fn anew<R: Files<File = File>>(rt: &R, file: &mut Option<File>) -> u8 {
+    match File::create(rt, "door.log") {
+        Ok(next) => {
+            *file = Some(next);
+            FINE
+        }
+        Err(_) => NOT_OPENED,
+    }
 }
 
-// Begins door.log anew in place of the descriptor that records go to, which stays open where that fails.
-fn anew(fd: i32) -> File {
-    let next = os::open_overwrite(b"door.log");
-    if next < 0 {
-        return File {
-            fd,
-            why: NOT_OPENED,
-        };
-    }
-    if 0 <= fd {
-        libc::close(fd);
-    }
-    File {
-        fd: next,
-        why: FINE,
+// Appends bytes to the file; yields why that failed, as it does where there is none.
+fn written(file: &mut Option<File>, bytes: &[u8]) -> u8 {
+    match file {
+        Some(file) => match file.write_all(bytes) {
+            Ok(()) => FINE,
+            Err(_) => NOT_WRITTEN,
+        },
+        None => NOT_WRITTEN,
     }
 }
 
 // Appends the first bytes of an area.
-fn appended(fd: i32, area: &Room, count: usize) -> File {
+fn appended(file: &mut Option<File>, area: &Room, count: usize) -> u8 {
     let all = &area[..];
     if count <= all.len() {
-        if !io::write_all(fd, &all[0..count]) {
-            return File {
-                fd,
-                why: NOT_WRITTEN,
-            };
-        }
+        return written(file, &all[0..count]);
     }
-    File { fd, why: FINE }
+    FINE
 }
 
-// Does what a line asks: begins the file anew, or appends so many bytes of the area of whom the records are.
-pub fn filed(
-    fd: i32,
+// Does what a line asks: begins the file anew, or appends so many bytes of the area of whom the records are. Yields why that failed, 0 where it did not.
+pub fn filed<R: Files<File = File>>(
+    rt: &R,
+    file: &mut Option<File>,
     begun: bool,
     count: usize,
     whose: u64,
     room: &Room,
     one: &Room,
     two: &Room,
-) -> File {
+) -> u8 {
     if begun {
-        return anew(fd);
+        return anew(rt, file);
     }
     if count == 0 {
-        return File { fd, why: FINE };
+        return FINE;
     }
     match whose {
-        1 => appended(fd, one, count),
-        2 => appended(fd, two, count),
-        _ => appended(fd, room, count),
+        1 => appended(file, one, count),
+        2 => appended(file, two, count),
+        _ => appended(file, room, count),
     }
 }
