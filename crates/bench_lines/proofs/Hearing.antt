@@ -1,8 +1,8 @@
 -- A line by its first word, with its line feed, without its comment.
-use Rattle.std.proofs.Common.{◌≡◌, ℕ, ◌<◌, ◌≤◌, true, false, cond, ◌||◌, eqb, List, [], ◌∷◌, length, sym, refl, ap, ◌∙◌, le-ltb, lt-ltb, eq-eqb, ne_eqb}
+use Rattle.std.proofs.Common.{◌≡◌, ℕ, ◌<◌, ◌≤◌, true, false, ◌||◌, eqb, List, [], ◌∷◌, length, sym, refl, ap, ◌∙◌, le-ltb, lt-ltb, eq-eqb, ne_eqb}
 use Rattle.words.specs.Words.{skip_of, find_of, place_of}
 use Rattle.words.specs.Numbers.{between}
-use Rattle.page.specs.Page.{Puts, unreadable_of}
+use Rattle.page.specs.Page.{Puts}
 use Rattle.page.proofs.Sheets.{then, put-none}
 use Rattle.timer_lines.specs.Named.{names, timer_line}
 use Rattle.bench_lines.specs.declared.desk.Bench.{Bench}
@@ -11,8 +11,8 @@ use Rattle.bench_lines.specs.declared.named.Heard.{Heard}
 use Rattle.bench_lines.specs.declared.named.Later.{Later}
 use Rattle.bench_lines.specs.Desk.{Sound}
 use Rattle.bench_lines.specs.Lines.{Says, timed_of}
-use Rattle.bench_lines.specs.Named.{Lent, lent, Lined, Leaves, Asking, Hears, nothing, others, named_of, worded_of}
-use Rattle.bench_lines.specs.Steps.{saying, ended_of, heard_of}
+use Rattle.bench_lines.specs.Named.{lent, Leaves, Asking, Hears, nothing, others, named_of, worded_of}
+use Rattle.bench_lines.specs.Steps.{ended_of, heard_of}
 
 -- ---- by its first word
 

@@ -1,5 +1,5 @@
 -- What each line leaves of the bench.
-use Rattle.std.proofs.Common.{◌≡◌, ℕ, Bool, true, cond, ◌&&◌, eqb, List, length, refl, ap, ◌∙◌, eq-eqb, ne_eqb}
+use Rattle.std.proofs.Common.{◌≡◌, ℕ, Bool, true, ◌&&◌, eqb, List, length, refl, ap, ◌∙◌, eq-eqb, ne_eqb}
 use Rattle.figures.specs.Figures.{text}
 use Rattle.words.specs.Words.{skip_of, exactly_of}
 use Rattle.words.specs.Numbers.{next_of}
@@ -15,7 +15,6 @@ use Rattle.list_lines.specs.Lists as list
 use Rattle.list_lines.specs.declared.worked.Left as list·left
 use Rattle.log_lines.specs.Logged as log
 use Rattle.log_lines.specs.declared.Left as log·left
-use Rattle.record_ring.specs.declared.Ring.{Ring}
 use Rattle.timer_lines.specs.Called as timer
 use Rattle.timer_lines.specs.Made as made
 use Rattle.timer_lines.specs.declared.socket.Left as timer·left
@@ -26,7 +25,7 @@ use Rattle.wdt_lines.specs.declared.called.Left as wdt·left
 use Rattle.wdt_lines.specs.declared.called.Watched.{Watched}
 use Rattle.bench_lines.specs.declared.desk.Bench.{Bench}
 use Rattle.bench_lines.specs.Desk.{Sound}
-use Rattle.bench_lines.specs.Lines.{Says, telling, worked, making, keeping, kept_of, timed_of, configured_of, watched_of, listed_of, itemed_of, doored_of, logged_of, whose_of, recorded_of}
+use Rattle.bench_lines.specs.Lines.{Says, worked, making, keeping, kept_of, timed_of, configured_of, watched_of, listed_of, itemed_of, doored_of, logged_of, whose_of, recorded_of}
 
 -- ---- the file
 

@@ -1,12 +1,11 @@
 -- What a line leaves of the shelf.
-use Rattle.std.proofs.Common.{◌≡◌, ℕ, Bool, ◌&&◌, ltb, List, [], ◌∷◌, sym, refl, ap, ◌∙◌, eq-eqb, ne_eqb}
+use Rattle.std.proofs.Common.{◌≡◌, ℕ, Bool, ◌&&◌, ltb, List, [], ◌∷◌, refl, ap, ◌∙◌, eq-eqb, ne_eqb}
 use Rattle.page.specs.Page.{Puts, unreadable_of}
 use Rattle.page.proofs.Sheets.{then}
 use Rattle.sched_lines.specs.Sched.{sched_of, Leaves}
 use Rattle.sched_lines.specs.declared.Left as sched
 use Rattle.scheduler.specs.declared.Scheduler.{Scheduler}
-use Rattle.board.specs.Calls.{Areas, areas_of}
-use Rattle.board.specs.declared.outcome.Written.{Written}
+use Rattle.board.specs.Calls.{Areas}
 use Rattle.board_lines.specs.Asked.{asked_of}
 use Rattle.board_lines.specs.Ordered as order
 use Rattle.board_lines.specs.declared.asked.Asked.{Asked}
@@ -16,7 +15,7 @@ use Rattle.bench_lines.specs.declared.desk.Bench.{Bench}
 use Rattle.bench_lines.specs.declared.desk.Shelf.{Shelf}
 use Rattle.bench_lines.specs.declared.shelved.Left.{Left}
 use Rattle.bench_lines.specs.Desk.{Sound, Stable}
-use Rattle.bench_lines.specs.Shelved.{Worked, Works, scheduled_of, board_kept, filed, filed_of, taken_of, ordered_of, answered_of, shelved_of}
+use Rattle.bench_lines.specs.Shelved.{Works, scheduled_of, board_kept, filed, taken_of, ordered_of, answered_of, shelved_of}
 
 module _ (b : Bench) (s : Shelf) (sound : Sound b) (stable : Stable s) (old new : List ℕ) (from : ℕ) where
   -- the scheduler's line

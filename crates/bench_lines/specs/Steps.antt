@@ -1,14 +1,13 @@
 -- What a script leaves, line by line: the bench and the shelf, every byte that is lent, and the answers (docs/SCRIPT.md, "Answers, a line for each command").
-use Rattle.std.specs.Prelude.{◌≡◌, ℕ, ◌+◌, ◌%◌, ◌^◌, Bool, false, cond, List, [], ◌∷◌, ◌++◌, length, take, ◌==◌, nat_lt}
+use Rattle.std.specs.Prelude.{◌≡◌, ℕ, ◌+◌, ◌%◌, ◌^◌, false, cond, List, [], ◌∷◌, ◌++◌, length, take, ◌==◌, nat_lt}
 use Rattle.words.specs.Words.{skip_of, find_of}
 use Rattle.words.specs.Numbers.{between}
 use Rattle.page.specs.Page.{unreadable_of}
 use Rattle.linewise.specs.Lines.{Holds, end_of, cut_of}
-use Rattle.linewise.specs.Claims.{Read, reading, fed}
+use Rattle.linewise.specs.Claims.{reading, fed}
 use Rattle.board.specs.Calls.{areas_of}
 use Rattle.bench_lines.specs.declared.desk.Bench.{Bench}
 use Rattle.bench_lines.specs.declared.desk.Shelf.{Shelf}
-use Rattle.bench_lines.specs.declared.named.Heard.{Heard}
 use Rattle.bench_lines.specs.declared.turns.Turned.{Turned}
 use Rattle.bench_lines.specs.Lines.{telling}
 use Rattle.bench_lines.specs.Named.{Lent, lent, leaving, Asking, asking, nothing, worded_of, Hears}

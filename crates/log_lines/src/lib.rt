@@ -9,8 +9,8 @@ ghost use Rattle.digits.specs.Spelling.{bytes_of};
 ghost use Rattle.record_ring.specs.Log.{Valid};
 ghost use Rattle.log_lines.specs.Logged.{held_of, added_of, add_of, release_of, read_of, log_line, Leaves};
 
-use record_ring::{Answer, BYTES, Ring};
 use page::{Page, number, unreadable};
+use record_ring::{Answer, BYTES, Ring};
 use words::{
     Cursor, FINE, MALFORMED, MISSING_WORD, UNKNOWN_COMMAND, decimal, exactly, find, place, skip,
 };

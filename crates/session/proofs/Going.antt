@@ -9,14 +9,13 @@ use lib.Dec.{ltb}
 use lib.ListN.{length, take, drop}
 use lib.Seq.{take-add, drop-drop}
 use Rattle.words.specs.Numbers.{between}
-use Rattle.page.specs.Page.{Sheet, size, Puts}
-use Rattle.linewise.specs.Lines.{cut_of}
+use Rattle.page.specs.Page.{Sheet, size}
 use Rattle.linewise.specs.Claims.{Read, reading, feed, fed}
 use Rattle.board.specs.Calls.{areas_of}
 use Rattle.bench_lines.specs.declared.named.Later.{Later}
 use Rattle.bench_lines.specs.declared.shelved.Left.{Left}
 use Rattle.bench_lines.specs.declared.turns.Turned.{Turned}
-use Rattle.bench_lines.specs.Named.{Lent, lent, Asking, Hears}
+use Rattle.bench_lines.specs.Named.{Lent, lent, Hears}
 use Rattle.bench_lines.specs.Shelved.{shelved_of, Works}
 use Rattle.bench_lines.specs.Steps.{State, step_of, first_of, saying, so_far, Held, Turns}
 use Rattle.bench_lines.specs.Claims.{left, Stepped}

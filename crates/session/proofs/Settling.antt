@@ -1,9 +1,9 @@
 -- Other bytes in an answer's place.
-use Prim.Native.Nat.{ℕ, ◌+◌, ◌≤◌}
+use Prim.Native.Nat.{ℕ, ◌≤◌}
 use native.Mathlib.Omega.{arith}
 use mathlib.Core.Bool.{true}
 use mathlib.Core.List.{List, [], ◌∷◌, ◌++◌}
-use mathlib.Core.Path.{◌≡◌, refl, sym, ap, ◌∙◌}
+use mathlib.Core.Path.{◌≡◌, sym, ap, ◌∙◌}
 use borrow.Author.Tests.{eq-eqb, ne_eqb}
 use lib.ListN.{length, take, length-append}
 use lib.Seq.{length-take-le, take-append-le, take-take}
@@ -15,7 +15,7 @@ use Rattle.bench_lines.specs.declared.desk.Shelf.{Shelf}
 use Rattle.bench_lines.specs.Desk.{Sound}
 use Rattle.bench_lines.specs.Named.{Lent}
 use Rattle.bench_lines.specs.Steps.{State, step_of}
-use Rattle.bench_lines.specs.Claims.{longest, left}
+use Rattle.bench_lines.specs.Claims.{left}
 use Rattle.session.specs.declared.runs.Run.{Run}
 use Rattle.session.specs.Files.{at_line, settled_of, filed_step}
 use Rattle.session.specs.Runs.{roomy_of, Shows, Leaves}

@@ -12,7 +12,7 @@ use Rattle.page.specs.Page.{Sheet, sheet, size, put, puts, Puts}
 use Rattle.page.proofs.Claims.{fits, nothing-lost}
 use Rattle.bench_lines.specs.Named.{Lent}
 use Rattle.bench_lines.specs.Steps.{State, step_of}
-use Rattle.bench_lines.specs.Claims.{longest, left, Stepped}
+use Rattle.bench_lines.specs.Claims.{longest, Stepped}
 use Rattle.bench_lines.proofs.Claims.{longest-holds}
 use Rattle.session.specs.declared.runs.Run.{Run}
 use Rattle.session.specs.Runs.{roomy_of, Shows, Leaves}

@@ -1,18 +1,17 @@
 -- `bench::piece` meets its contract.
-use Prim.Native.Nat.{ℕ, ◌-◌, ◌≤◌}
 use native.Mathlib.Omega.{arith}
-use mathlib.Core.Path.{◌≡◌, sym, ap, ◌∙◌}
+use mathlib.Core.Path.{sym, ap, ◌∙◌}
 use Rattle.bench_lines.specs.Steps.{State}
 use Rattle.session.proofs.Carrying.{carries-none, carries-reads, carries-asks, carries-all}
 use Rattle.bench.proofs.piece.Goals as goal
 
 pub loop-i-init : goal.loop-i-init
 loop-i-init g c = (
-      c.requires.0,
-      c.requires.1,
-      omega arith,
-      λ answers bytes h n. (carries-none _ _ _ _ _ _ _ answers bytes c.args.input.now 0 h, n),
-    )
+  c.requires.0,
+  c.requires.1,
+  omega arith,
+  λ answers bytes h n. (carries-none _ _ _ _ _ _ _ answers bytes c.args.input.now 0 h, n),
+)
 
 pub loop-i-preserved-then-went : goal.loop-i-preserved-then-went
 loop-i-preserved-then-went g c =

@@ -1,7 +1,6 @@
 -- `log_lines::add` meets its contract.
 use Rattle.log_lines.proofs.Logging.{add-refused, add-placed}
 use Rattle.figures.specs.Figures.{codes}
-use borrow.Author.Rules.{rules}
 use Rattle.log_lines.proofs.add.Goals as goal
 
 pub returns-then-answer-ne0 : goal.returns-then-answer-ne0

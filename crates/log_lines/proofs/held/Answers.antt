@@ -2,7 +2,6 @@
 use Rattle.log_lines.specs.Logged.{held_of}
 use Rattle.figures.specs.Figures.{codes}
 use borrow.Author.Tests.{eq-eqb, ne_eqb}
-use borrow.Author.Rules.{rules}
 use Rattle.log_lines.proofs.held.Goals as goal
 
 pub returns-then-answer-ne0 : goal.returns-then-answer-ne0

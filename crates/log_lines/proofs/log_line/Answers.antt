@@ -1,7 +1,6 @@
 -- `log_lines::log_line` meets its contract: the name is looked up before the words are counted.
 use Rattle.log_lines.proofs.Logging.{says, line-missing, line-named, named-add, named-release, named-read, named-unknown}
 use Rattle.figures.specs.Figures.{codes}
-use borrow.Author.Rules.{rules}
 use Rattle.log_lines.proofs.log_line.Goals as goal
 
 pub returns-then-start-line : goal.returns-then-start-line

@@ -4,7 +4,6 @@ use Rattle.figures.specs.Figures.{codes}
 use mathlib.Core.Path.{◌≡◌}
 use Prim.Native.Nat.{◌+◌, ◌*◌, ◌-◌}
 use native.Mathlib.Omega.{arith}
-use borrow.Author.Rules.{rules}
 use Rattle.log_lines.proofs.read_line.Goals as goal
 
 pub returns-then-end-ne-FINE : goal.returns-then-end-ne-FINE

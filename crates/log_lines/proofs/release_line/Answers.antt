@@ -1,6 +1,5 @@
 -- `log_lines::release_line` meets its contract.
 use Rattle.log_lines.proofs.Logging.{release-unread, release-done}
-use borrow.Author.Rules.{rules}
 use Rattle.log_lines.proofs.release_line.Goals as goal
 
 pub returns-then-end-ne-FINE : goal.returns-then-end-ne-FINE

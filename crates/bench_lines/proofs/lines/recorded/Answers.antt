@@ -1,6 +1,5 @@
 use Rattle.figures.specs.Figures.{codes}
 use Rattle.bench_lines.proofs.Saying.{recorded-unread, recorded-says}
-use Rattle.std.proofs.Common.{rules}
 use Rattle.bench_lines.proofs.lines.recorded.Goals as goal
 
 pub returns-then-end-ne-FINE : goal.returns-then-end-ne-FINE

@@ -1,5 +1,4 @@
 use Rattle.bench_lines.proofs.Saying.{timed-says}
-use Rattle.std.proofs.Common.{rules}
 use Rattle.bench_lines.proofs.lines.timed.Goals as goal
 
 pub returns : goal.returns

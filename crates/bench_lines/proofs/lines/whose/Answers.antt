@@ -1,5 +1,4 @@
 use Rattle.bench_lines.proofs.Saying.{whose-own, whose-board}
-use Rattle.std.proofs.Common.{rules}
 use Rattle.bench_lines.proofs.lines.whose.Goals as goal
 
 pub returns-then-skip-line : goal.returns-then-skip-line

@@ -1,4 +1,3 @@
-use Rattle.std.proofs.Common.{ap, rules}
 use Rattle.bench_lines.proofs.named.answered.Goals as goal
 
 pub returns : goal.returns

@@ -1,4 +1,4 @@
-use Rattle.std.proofs.Common.{ℕ, List, refl, ap, rules, ne_eqb}
+use Rattle.std.proofs.Common.{ℕ, List, refl, ap, ne_eqb}
 use Rattle.bench_lines.specs.Named.{named_of, lent}
 use Rattle.bench_lines.proofs.named.line_of.Goals as goal
 

@@ -1,4 +1,3 @@
-use Rattle.std.proofs.Common.{arith, rules}
 use Rattle.figures.specs.Figures.{codes}
 use Rattle.bench_lines.proofs.Hearing.{worded-timed, worded-later, worded-now}
 use Rattle.bench_lines.proofs.named.worded.Goals as goal

@@ -1,6 +1,5 @@
 use Rattle.board.specs.Calls.{areas_of}
 use Rattle.bench_lines.proofs.Shelving.{answered-sched, answered-board}
-use Rattle.std.proofs.Common.{rules}
 use Rattle.bench_lines.proofs.shelved.answered.Goals as goal
 
 pub scheduled-requires : goal.scheduled-requires

@@ -1,5 +1,4 @@
 use Rattle.bench_lines.proofs.Shelving.{scheduled-works}
-use Rattle.std.proofs.Common.{rules}
 use Rattle.bench_lines.proofs.shelved.scheduled.Goals as goal
 
 pub sched_line-left-requires : goal.sched_line-left-requires

@@ -1,4 +1,4 @@
-use Rattle.std.proofs.Common.{◌≡◌, ◌-◌, take, arith, rules}
+use Rattle.std.proofs.Common.{◌≡◌, ◌-◌, take, arith}
 use Rattle.board.specs.Calls.{areas_of}
 use Rattle.bench_lines.proofs.Shelving.{shelved-works}
 use Rattle.bench_lines.proofs.shelved.shelved.Goals as goal

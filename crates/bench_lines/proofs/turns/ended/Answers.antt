@@ -1,5 +1,4 @@
 use Rattle.bench_lines.proofs.Hearing.{ended-later, ended-now}
-use Rattle.std.proofs.Common.{rules}
 use Rattle.bench_lines.proofs.turns.ended.Goals as goal
 
 pub returns-then-later-ne0 : goal.returns-then-later-ne0

@@ -1,5 +1,4 @@
 use Rattle.bench_lines.proofs.Hearing.{heard-none, heard-words}
-use Rattle.std.proofs.Common.{rules}
 use Rattle.bench_lines.proofs.turns.heard.Goals as goal
 
 pub returns-then-start-line : goal.returns-then-start-line

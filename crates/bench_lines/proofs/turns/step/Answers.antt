@@ -1,4 +1,4 @@
-use Rattle.std.proofs.Common.{refl, arith, rules}
+use Rattle.std.proofs.Common.{refl, arith}
 use Rattle.page.proofs.Sheets.{then}
 use Rattle.bench_lines.proofs.Feeding.{held-over}
 use Rattle.bench_lines.proofs.Stepping.{first-long, step-within, step-plain}

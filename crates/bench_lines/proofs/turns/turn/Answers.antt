@@ -1,4 +1,4 @@
-use Rattle.std.proofs.Common.{true, false, refl, arith, rules}
+use Rattle.std.proofs.Common.{true, false, refl, arith}
 use Rattle.page.proofs.Sheets.{put-none}
 use Rattle.bench_lines.specs.Steps.{so_far}
 use Rattle.bench_lines.proofs.Feeding.{held_none, held_more, held-size}

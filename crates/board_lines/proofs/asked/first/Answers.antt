@@ -1,7 +1,6 @@
 use borrow.Author.Tests.{lt-ltb, le-ltb, ne_eqb}
 use native.Mathlib.Omega.{arith}
 use Rattle.board_lines.specs.Asked.{first_of}
-use borrow.Author.Rules.{rules}
 use Rattle.board_lines.proofs.asked.first.Goals as goal
 
 pub returns-in-13 : goal.returns-in-13

@@ -1,7 +1,6 @@
 use borrow.Author.Tests.{lt-ltb, le-ltb}
 use native.Mathlib.Omega.{arith}
 use Rattle.board_lines.specs.Asked.{last_of}
-use borrow.Author.Rules.{rules}
 use Rattle.board_lines.proofs.asked.last.Goals as goal
 
 pub returns-in-0-to-15 : goal.returns-in-0-to-15

@@ -1,6 +1,5 @@
 use borrow.Author.Tests.{ne_eqb}
 use Rattle.board_lines.specs.Asked.{order_of}
-use borrow.Author.Rules.{rules}
 use Rattle.board_lines.proofs.asked.order_of.Goals as goal
 
 pub returns-in-0 : goal.returns-in-0

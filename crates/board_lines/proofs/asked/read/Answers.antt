@@ -1,5 +1,4 @@
 use Rattle.board_lines.proofs.Asking.{read_is}
-use borrow.Author.Rules.{rules}
 use Rattle.board_lines.proofs.asked.read.Goals as goal
 
 pub returns : goal.returns

@@ -1,6 +1,5 @@
 use borrow.Author.Tests.{ne_eqb}
 use Rattle.board_lines.specs.Asked.{third_of}
-use borrow.Author.Rules.{rules}
 use Rattle.board_lines.proofs.asked.third.Goals as goal
 
 pub returns-in-5 : goal.returns-in-5

@@ -1,5 +1,4 @@
 use Rattle.board_lines.specs.Ordered.{spoilt_of}
-use borrow.Author.Rules.{rules}
 use Rattle.board_lines.proofs.ordered.any_spoilt.Goals as goal
 
 pub returns : goal.returns

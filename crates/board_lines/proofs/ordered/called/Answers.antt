@@ -1,10 +1,8 @@
-use mathlib.Core.Path.{◌∙◌}
 use lib.ListN.{length}
 use Rattle.passage.specs.Passage.{ticks}
 use Rattle.board.specs.Calls.{told}
 use Rattle.board_lines.specs.Ordered.{filled_to}
 use Rattle.board_lines.proofs.Ordering.{told-leaves}
-use borrow.Author.Rules.{rules}
 use Rattle.board_lines.proofs.ordered.called.Goals as goal
 
 pub returns : goal.returns

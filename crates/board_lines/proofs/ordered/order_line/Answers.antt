@@ -6,7 +6,6 @@ use lib.ListN.{length, take, length-take}
 use Rattle.figures.specs.Figures.{codes}
 use Rattle.board.specs.Calls.{areas_of}
 use Rattle.board_lines.proofs.Ordering.{order-fresh, order-none, order-state, order-called}
-use borrow.Author.Rules.{rules}
 use Rattle.board_lines.proofs.ordered.order_line.Goals as goal
 
 pub returns-then-asked-eq-NEW : goal.returns-then-asked-eq-NEW

@@ -1,4 +1,3 @@
-use borrow.Author.Rules.{rules}
 use Rattle.board_lines.proofs.ordered.spoilt.Goals as goal
 
 pub returns : goal.returns

@@ -2,7 +2,6 @@ use mathlib.Core.Path.{refl, sym, ◌∙◌}
 use Rattle.figures.specs.Figures.{codes}
 use Rattle.board.specs.Calls.{areas_of}
 use Rattle.board_lines.proofs.Ordering.{told-spoilt, told-answered}
-use borrow.Author.Rules.{rules}
 use Rattle.board_lines.proofs.ordered.told.Goals as goal
 
 pub returns-then-any_spoilt : goal.returns-then-any_spoilt

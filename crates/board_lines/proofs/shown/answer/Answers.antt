@@ -3,7 +3,6 @@ use mathlib.Core.List.{◌++◌}
 use Rattle.board_lines.specs.Shown.{nexts_of, records_of}
 use Rattle.board.specs.Calls.{areas_of}
 use Rattle.display.proofs.Tellings.{after-refused, after-accepted}
-use borrow.Author.Rules.{rules}
 use Rattle.board_lines.proofs.shown.answer.Goals as goal
 
 pub returns-in-Refused : goal.returns-in-Refused

@@ -1,7 +1,6 @@
 use Rattle.page.proofs.Sheets.{then}
 use Rattle.figures.specs.Figures.{codes}
 use Rattle.board_lines.proofs.Ordering.{held-at, held-never}
-use borrow.Author.Rules.{rules}
 use Rattle.board_lines.proofs.shown.held.Goals as goal
 
 pub returns-in-At : goal.returns-in-At

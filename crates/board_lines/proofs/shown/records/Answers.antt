@@ -1,7 +1,6 @@
 use Rattle.page.proofs.Sheets.{then}
 use Rattle.figures.specs.Figures.{codes}
 use Rattle.board_lines.specs.Shown.{records_of}
-use borrow.Author.Rules.{rules}
 use Rattle.board_lines.proofs.shown.records.Goals as goal
 
 pub returns : goal.returns

@@ -1,7 +1,6 @@
 -- `list_lines::made::add` meets its contract.
 use Rattle.list_lines.proofs.Adding.{add-room, add-full}
 use Rattle.figures.specs.Figures.{codes}
-use borrow.Author.Rules.{rules}
 use Rattle.list_lines.proofs.made.add.Goals as goal
 
 pub returns-then-n-lt-MOST : goal.returns-then-n-lt-MOST

@@ -1,6 +1,5 @@
 -- `list_lines::made::item_line` meets its contract: the words are read in their order.
 use Rattle.list_lines.proofs.Adding.{item-unread, item-read, line_read}
-use borrow.Author.Rules.{rules}
 use Rattle.list_lines.proofs.made.item_line.Goals as goal
 
 pub returns-then-end-ne-FINE : goal.returns-then-end-ne-FINE

@@ -2,7 +2,6 @@
 use Rattle.list_lines.proofs.Adding.{item-record}
 use mathlib.Core.Path.{refl, ap, ◌∙◌}
 use lib.Seq.{sets}
-use borrow.Author.Rules.{rules}
 use Rattle.list_lines.proofs.made.store.Goals as goal
 
 pub returns : goal.returns

@@ -1,7 +1,6 @@
 -- `list_lines::worked::ended` meets its contract.
 use Rattle.figures.specs.Figures.{codes}
 use Rattle.page.proofs.Sheets.{then}
-use borrow.Author.Rules.{rules}
 use Rattle.list_lines.proofs.worked.ended.Goals as goal
 
 pub returns : goal.returns

@@ -5,7 +5,6 @@ use Rattle.room.specs.Room.{filled}
 use Rattle.writes.specs.Writes.{listing}
 use lib.ListN.{length}
 use Rattle.figures.specs.Figures.{codes}
-use borrow.Author.Rules.{rules}
 use Rattle.list_lines.proofs.worked.listed.Goals as goal
 
 pub returns-then-end-area : goal.returns-then-end-area

@@ -3,7 +3,6 @@ use Rattle.list_lines.proofs.Working.{items-unread, items-worked}
 use Prim.Native.Nat.{◌*◌, ◌-◌}
 use native.Mathlib.Omega.{arith}
 use mathlib.Core.Path.{◌≡◌}
-use borrow.Author.Rules.{rules}
 use Rattle.list_lines.proofs.worked.of_items.Goals as goal
 
 pub returns-then-end-ne-FINE : goal.returns-then-end-ne-FINE

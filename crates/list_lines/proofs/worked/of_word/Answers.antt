@@ -6,7 +6,6 @@ use native.Mathlib.Omega.{arith}
 use mathlib.Core.Path.{◌≡◌, refl, ap, ◌∙◌}
 use lib.ListN.{take}
 use Rattle.figures.specs.Figures.{codes}
-use borrow.Author.Rules.{rules}
 use Rattle.list_lines.proofs.worked.of_word.Goals as goal
 
 pub returns-then-read-ne-FINE : goal.returns-then-read-ne-FINE

@@ -5,7 +5,6 @@ use native.Mathlib.Omega.{arith}
 use mathlib.Core.Path.{◌≡◌, refl}
 use lib.ListN.{length, take, length-take}
 use Rattle.figures.specs.Figures.{codes}
-use borrow.Author.Rules.{rules}
 use Rattle.list_lines.proofs.worked.on_timer.Goals as goal
 
 pub returns-then-s : goal.returns-then-s

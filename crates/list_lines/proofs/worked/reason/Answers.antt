@@ -1,7 +1,6 @@
 -- `list_lines::worked::reason` meets its contract.
 use Rattle.list_lines.specs.Lists.{reason_of}
 use Rattle.figures.specs.Figures.{codes}
-use borrow.Author.Rules.{rules}
 use Rattle.list_lines.proofs.worked.reason.Goals as goal
 
 pub returns-in-Refused : goal.returns-in-Refused

@@ -1,6 +1,5 @@
 -- `list_lines::worked::writes_line` meets its contract.
 use Rattle.list_lines.proofs.Working.{line-items, line_word}
-use borrow.Author.Rules.{rules}
 use Rattle.list_lines.proofs.worked.writes_line.Goals as goal
 
 pub returns-then-one-eq-FINE : goal.returns-then-one-eq-FINE

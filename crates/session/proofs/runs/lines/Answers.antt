@@ -1,32 +1,22 @@
 -- `session::lines` meets its contract. The loop's invariant: what was read of the piece fed the script on, and no line of it asked something of the file.
-use Prim.Native.Nat.{ℕ, ◌-◌, ◌≤◌, ◌<◌}
+use Prim.Native.Nat.{◌≤◌}
 use native.Mathlib.Omega.{arith}
 use mathlib.Core.Bool.{false≢true}
-use mathlib.Core.List.{List}
-use mathlib.Core.Logic.{◌⊎◌, inl, inr, ⊎_elim}
-use mathlib.Core.Path.{◌≡◌, refl, sym, ◌∙◌}
+use mathlib.Core.Logic.{inl, inr, ⊎_elim}
+use mathlib.Core.Path.{refl, sym, ◌∙◌}
 use lib.ListN.{length}
-use borrow.Author.Rules.{rules}
-use Rattle.words.specs.Numbers.{between}
-use Rattle.page.specs.Page.{size}
-use Rattle.bench_lines.specs.Desk.{Sound, Stable}
-use Rattle.bench_lines.specs.Named.{lent}
-use Rattle.bench_lines.specs.Steps.{Held}
-use Rattle.bench_lines.specs.Claims.{left}
-use Rattle.session.specs.Runs.{Reads}
 use Rattle.session.proofs.Going.{goes_on, goes-no, reads_none, reads_on, asked-ended, reads-ended, goes-ended, step-now, step-later, goes_none}
 use Rattle.session.proofs.runs.lines.Goals as goal
 
 pub loop-i-init : goal.loop-i-init
-loop-i-init c =
-    (
-      c.requires.0,
-      c.requires.1,
-      omega arith,
-      omega (arith, c.requires.2),
-      inr (refl, refl),
-      λ answers bytes h n. reads_none c.args.r _ _ _ _ _ answers bytes c.args.input.now c.args.start h,
-    )
+loop-i-init c = (
+  c.requires.0,
+  c.requires.1,
+  omega arith,
+  omega (arith, c.requires.2),
+  inr (refl, refl),
+  λ answers bytes h n. reads_none c.args.r _ _ _ _ _ answers bytes c.args.input.now c.args.start h,
+)
 
 pub turn-t-requires : goal.turn-t-requires
 turn-t-requires c =

@@ -1,12 +1,9 @@
 -- `session::lines` meets its contract. The loop's invariant: what was read of the piece fed the script on, and no line of it asked something of the file.
 use Prim.Native.Nat.{ℕ, ◌-◌, ◌≤◌, ◌<◌}
-use native.Mathlib.Omega.{arith}
-use mathlib.Core.Bool.{false≢true}
 use mathlib.Core.List.{List}
-use mathlib.Core.Logic.{◌⊎◌, inl, inr, ⊎_elim}
-use mathlib.Core.Path.{◌≡◌, refl, sym, ◌∙◌}
+use mathlib.Core.Logic.{◌⊎◌}
+use mathlib.Core.Path.{◌≡◌}
 use lib.ListN.{length}
-use borrow.Author.Rules.{rules}
 use Rattle.words.specs.Numbers.{between}
 use Rattle.page.specs.Page.{size}
 use Rattle.bench_lines.specs.Desk.{Sound, Stable}
@@ -14,7 +11,6 @@ use Rattle.bench_lines.specs.Named.{lent}
 use Rattle.bench_lines.specs.Steps.{Held}
 use Rattle.bench_lines.specs.Claims.{left}
 use Rattle.session.specs.Runs.{Reads}
-use Rattle.session.proofs.Going.{goes_on, goes-no, reads_none, reads_on, asked-ended, reads-ended, goes-ended, step-now, step-later, goes_none}
 use Rattle.session.proofs.runs.lines.Given as goal
 
 abbrev pub invariant-loop-i : goal.invariant-loop-i

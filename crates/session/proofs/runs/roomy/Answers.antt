@@ -1,5 +1,4 @@
 -- `session::roomy` meets its contract: the constant in the code is the longest answer of the definition.
-use borrow.Author.Rules.{rules}
 use Rattle.session.proofs.Showing.{room-is}
 use Rattle.session.proofs.runs.roomy.Goals as goal
 

@@ -1,11 +1,7 @@
 use Rattle.figures.specs.Figures.{codes}
 use Rattle.page.proofs.Sheets.{then}
-use Rattle.page.specs.Page.{size}
-use lib.ListN.{length}
-use mathlib.Core.Path.{◌≡◌, refl}
+use mathlib.Core.Path.{refl}
 use Rattle.session.proofs.Settling.{sound-at, settled-fine, settled-unwritten, settled-unopened}
-use Prim.Native.Nat.{ℕ}
-use borrow.Author.Rules.{rules}
 use Rattle.session.proofs.settles.settled.Goals as goal
 
 pub returns-then-why-eq-FINE : goal.returns-then-why-eq-FINE

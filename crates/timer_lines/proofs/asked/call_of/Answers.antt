@@ -1,7 +1,6 @@
 -- `timer_lines::asked::call_of` meets its contract: each place has its call.
 use Rattle.timer_lines.specs.Asked.{call_of}
 use borrow.Author.Tests.{ne_eqb}
-use borrow.Author.Rules.{rules}
 use Rattle.timer_lines.proofs.asked.call_of.Goals as goal
 
 pub returns-in-0 : goal.returns-in-0

@@ -2,7 +2,6 @@
 use Rattle.timer_lines.specs.Asked.{first_of}
 use native.Mathlib.Omega.{arith}
 use borrow.Author.Tests.{lt-ltb, le-ltb, ne_eqb}
-use borrow.Author.Rules.{rules}
 use Rattle.timer_lines.proofs.asked.first.Goals as goal
 
 pub returns-in-16 : goal.returns-in-16

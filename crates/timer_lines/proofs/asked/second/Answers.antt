@@ -1,7 +1,6 @@
 -- `timer_lines::asked::second` meets its contract.
 use Rattle.timer_lines.specs.Asked.{second_of}
 use borrow.Author.Tests.{ne_eqb}
-use borrow.Author.Rules.{rules}
 use Rattle.timer_lines.proofs.asked.second.Goals as goal
 
 pub returns-in-16 : goal.returns-in-16

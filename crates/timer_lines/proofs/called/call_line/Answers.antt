@@ -5,7 +5,6 @@ use Prim.Native.Nat.{◌-◌}
 use native.Mathlib.Omega.{arith}
 use Rattle.timer_lines.proofs.Telling.{heard-unread, heard-none, heard-called}
 use Rattle.figures.specs.Figures.{codes}
-use borrow.Author.Rules.{rules}
 use Rattle.timer_lines.proofs.called.call_line.Goals as goal
 
 pub returns-then-asked-ne-FINE : goal.returns-then-asked-ne-FINE

@@ -2,7 +2,6 @@
 use Rattle.timer_lines.specs.Called.{answered_by}
 use lib.ListN.{length}
 use Rattle.timer_lines.proofs.Telling.{told-leaves}
-use borrow.Author.Rules.{rules}
 use Rattle.timer_lines.proofs.called.called.Goals as goal
 
 pub returns : goal.returns

@@ -2,7 +2,6 @@
 use Rattle.timer_lines.specs.Called.{told_of}
 use Rattle.figures.specs.Figures.{codes}
 use borrow.Author.Tests.{lt-ltb, le-ltb}
-use borrow.Author.Rules.{rules}
 use Rattle.timer_lines.proofs.called.told.Goals as goal
 
 pub returns-then-end-area : goal.returns-then-end-area

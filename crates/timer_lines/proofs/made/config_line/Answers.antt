@@ -3,7 +3,6 @@ use Rattle.timer_lines.proofs.Making.{make-of}
 use Rattle.script.specs.Configs.{of_keys, of_preset}
 use mathlib.Core.Path.{sym, ap, ◌∙◌}
 use mathlib.Core.Bool.{Bool, cond}
-use borrow.Author.Rules.{rules}
 use Rattle.timer_lines.proofs.made.config_line.Goals as goal
 
 pub made-requires : goal.made-requires

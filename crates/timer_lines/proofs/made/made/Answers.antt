@@ -1,7 +1,6 @@
 -- `timer_lines::made::made` meets its contract.
 use Rattle.timer_lines.proofs.Making.{make-unread, make-refused, make-fresh}
 use Rattle.figures.specs.Figures.{codes}
-use borrow.Author.Rules.{rules}
 use Rattle.timer_lines.proofs.made.made.Goals as goal
 
 pub returns-then-given-ne-FINE : goal.returns-then-given-ne-FINE

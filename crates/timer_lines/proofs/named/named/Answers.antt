@@ -1,6 +1,5 @@
 -- `timer_lines::named::named` meets its contract: the names are the definition's.
 use Rattle.figures.specs.Figures.{codes}
-use borrow.Author.Rules.{rules}
 use Rattle.timer_lines.proofs.named.named.Goals as goal
 
 pub returns : goal.returns

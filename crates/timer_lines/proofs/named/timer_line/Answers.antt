@@ -2,7 +2,6 @@
 use Rattle.timer_lines.specs.Named.{timer_line}
 use borrow.Author.Tests.{lt-ltb, le-ltb, eq-eqb, ne_eqb}
 use mathlib.Core.Path.{refl}
-use borrow.Author.Rules.{rules}
 use Rattle.timer_lines.proofs.named.timer_line.Goals as goal
 
 pub call_line-requires : goal.call_line-requires

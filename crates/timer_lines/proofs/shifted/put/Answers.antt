@@ -1,7 +1,6 @@
 -- `timer_lines::shifted::put` meets its contract.
 use Rattle.timer_lines.proofs.Sizes.{moved_back, moved_on}
 use mir.Facts.{to_z-of_z}
-use mir.Val.{SFits}
 use mir.Syntax.{w32}
 use Rattle.timer_lines.specs.Shown.{moved_of}
 use Rattle.figures.specs.Figures.{codes}

@@ -4,7 +4,6 @@ use Rattle.timer_lines.proofs.Showing.{shown-not-read, shown-no-timer, shown-is}
 use Rattle.timer_lines.specs.Shown.{shift_line}
 use Rattle.figures.specs.Figures.{codes}
 use mathlib.Core.Path.{refl}
-use borrow.Author.Rules.{rules}
 use Rattle.timer_lines.proofs.shifted.shift_line.Goals as goal
 
 pub returns-then-end-ne-FINE : goal.returns-then-end-ne-FINE

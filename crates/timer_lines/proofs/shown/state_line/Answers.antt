@@ -3,7 +3,6 @@ use Rattle.timer_lines.proofs.Showing.{shown-not-read, shown-no-timer, shown-is}
 use Rattle.figures.specs.Figures.{codes}
 use Rattle.words.specs.declared.Cursor.{Cursor}
 use mathlib.Core.Path.{ap}
-use borrow.Author.Rules.{rules}
 use Rattle.timer_lines.proofs.shown.state_line.Goals as goal
 
 pub returns-then-end-ne-FINE : goal.returns-then-end-ne-FINE

@@ -1,7 +1,6 @@
 -- `wdt_lines::asked::call_of` meets its contract: each place has its call.
 use borrow.Author.Tests.{ne_eqb}
 use Rattle.wdt_lines.specs.Asked.{call_of}
-use borrow.Author.Rules.{rules}
 use Rattle.wdt_lines.proofs.asked.call_of.Goals as goal
 
 pub returns-in-0 : goal.returns-in-0

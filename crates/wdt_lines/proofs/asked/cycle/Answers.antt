@@ -2,7 +2,6 @@
 use borrow.Author.Tests.{lt-ltb, le-ltb}
 use native.Mathlib.Omega.{arith}
 use Rattle.wdt_lines.specs.Asked.{cycle_of}
-use borrow.Author.Rules.{rules}
 use Rattle.wdt_lines.proofs.asked.cycle.Goals as goal
 
 pub returns-in-0-to-5 : goal.returns-in-0-to-5

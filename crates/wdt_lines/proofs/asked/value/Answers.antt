@@ -1,7 +1,6 @@
 -- `wdt_lines::asked::value` meets its contract.
 use borrow.Author.Tests.{ne_eqb}
 use Rattle.wdt_lines.specs.Asked.{value_of}
-use borrow.Author.Rules.{rules}
 use Rattle.wdt_lines.proofs.asked.value.Goals as goal
 
 pub returns-in-1 : goal.returns-in-1

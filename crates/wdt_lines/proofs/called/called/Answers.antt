@@ -4,7 +4,6 @@ use Rattle.room.specs.Room.{filled}
 use Rattle.watchdog.specs.Calls.{answered}
 use Rattle.oscillator.specs.Oscillator.{ticks}
 use Rattle.wdt_lines.proofs.Leaving.{told-leaves}
-use borrow.Author.Rules.{rules}
 use Rattle.wdt_lines.proofs.called.called.Goals as goal
 
 pub returns : goal.returns

@@ -1,7 +1,6 @@
 -- `wdt_lines::called::heard` meets its contract.
 use Rattle.figures.specs.Figures.{codes}
 use Rattle.wdt_lines.proofs.Leaving.{heard-unread, heard-new, heard-ready, heard-none}
-use borrow.Author.Rules.{rules}
 use Rattle.wdt_lines.proofs.called.heard.Goals as goal
 
 pub returns-then-asked-ne-FINE : goal.returns-then-asked-ne-FINE

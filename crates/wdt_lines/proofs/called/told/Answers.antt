@@ -2,7 +2,6 @@
 use borrow.Author.Tests.{lt-ltb, le-ltb}
 use Rattle.figures.specs.Figures.{codes}
 use Rattle.wdt_lines.specs.Called.{told_of}
-use borrow.Author.Rules.{rules}
 use Rattle.wdt_lines.proofs.called.told.Goals as goal
 
 pub returns-then-end-area : goal.returns-then-end-area

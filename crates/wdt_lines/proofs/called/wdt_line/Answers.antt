@@ -1,7 +1,6 @@
 -- `wdt_lines::called::wdt_line` meets its contract: the name is looked up before the words are counted.
 use Rattle.figures.specs.Figures.{codes}
 use Rattle.wdt_lines.proofs.Leaving.{line-missing, line-heard, line-unknown}
-use borrow.Author.Rules.{rules}
 use Rattle.wdt_lines.proofs.called.wdt_line.Goals as goal
 
 pub returns-then-start-line : goal.returns-then-start-line

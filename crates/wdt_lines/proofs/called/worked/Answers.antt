@@ -4,7 +4,6 @@ use Prim.Native.Nat.{◌-◌}
 use mathlib.Core.Path.{◌≡◌, refl}
 use lib.ListN.{length, take, length-take}
 use Rattle.wdt_lines.proofs.Leaving.{ready-shown, ready-called}
-use borrow.Author.Rules.{rules}
 use Rattle.wdt_lines.proofs.called.worked.Goals as goal
 
 pub returns-then-asked-eq7 : goal.returns-then-asked-eq7

@@ -3,7 +3,6 @@ use Rattle.page.proofs.Sheets.{then, put-none}
 use Rattle.watchdog.specs.Outcome.{heard}
 use Rattle.wdt_lines.proofs.Telling.{after-refused, after-accepted}
 use Rattle.wdt_lines.specs.Shown.{left_by}
-use borrow.Author.Rules.{rules}
 use Rattle.wdt_lines.proofs.shown.answer.Goals as goal
 
 pub returns-in-Refused : goal.returns-in-Refused

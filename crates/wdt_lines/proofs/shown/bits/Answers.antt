@@ -2,7 +2,6 @@
 use Rattle.figures.specs.Figures.{codes}
 use Rattle.page.proofs.Sheets.{then}
 use Rattle.wdt_lines.specs.Shown.{bits_of}
-use borrow.Author.Rules.{rules}
 use Rattle.wdt_lines.proofs.shown.bits.Goals as goal
 
 pub returns : goal.returns

@@ -1,7 +1,6 @@
 -- `wdt_lines::shown::event` meets its contract.
 use Rattle.figures.specs.Figures.{codes}
 use Rattle.wdt_lines.specs.Shown.{event_of}
-use borrow.Author.Rules.{rules}
 use Rattle.wdt_lines.proofs.shown.event.Goals as goal
 
 pub returns-in-At : goal.returns-in-At

@@ -2,7 +2,6 @@
 use Rattle.figures.specs.Figures.{codes}
 use Rattle.wdt_lines.proofs.Telling.{said_plain}
 use Rattle.wdt_lines.specs.Shown.{said_of}
-use borrow.Author.Rules.{rules}
 use Rattle.wdt_lines.proofs.shown.said.Goals as goal
 
 pub returns-in-Refused : goal.returns-in-Refused

@@ -2,7 +2,6 @@
 use Rattle.figures.specs.Figures.{codes}
 use Rattle.page.proofs.Sheets.{then}
 use Rattle.wdt_lines.specs.Shown.{state_of}
-use borrow.Author.Rules.{rules}
 use Rattle.wdt_lines.proofs.shown.state.Goals as goal
 
 pub returns : goal.returns

@@ -1,4 +1,4 @@
-use Rattle.std.proofs.Common.{refl, rules}
+use Rattle.std.proofs.Common.{rules}
 use Rattle.bench_lines.proofs.desk.Bench.new.Goals as goal
 
 pub returns : goal.returns

@@ -1,4 +1,3 @@
-use Rattle.std.proofs.Common.{rules}
 use Rattle.bench_lines.proofs.desk.Shelf.new.Goals as goal
 
 pub returns : goal.returns

@@ -1,7 +1,6 @@
 use native.Mathlib.Omega.{arith}
 use Rattle.figures.specs.Figures.{codes}
 use Rattle.board_lines.proofs.Asking.{asked-missing, asked-read, asked-unknown}
-use borrow.Author.Rules.{rules}
 use Rattle.board_lines.proofs.asked.Asked.of.Goals as goal
 
 pub returns-then-start-line : goal.returns-then-start-line
