@@ -17,14 +17,19 @@ import sys
 
 WORD = re.compile(r"[^\s(){}\[\],;.:λ→×∷≡∙\"]+")
 DECLARED = re.compile(r"^(?:(?:abbrev|unfoldable|axiom|pub|open)\s+)*([^\s:(){}]+)\s*:\s", re.M)
-# lemmas that a definition's new name would fall together with, by crate
+# lemmas that a definition's new name would fall together with, by crate; and one that is named after a word of std that has another name today
 APART = {
     "door_lines": {"edge_on": "edge_on-leaves"},
     "outlook": {"one_bit": "one_bit-not_zero"},
     "scene": {"at_top": "at_top-now"},
     "dump": {"written_all": "written_all-joined"},
     "soak": {"written_all": "written_all-joined", "read_back": "read_back-changes"},
+    "events": {"getD-swap": "get_or-swap"},
+    "plans": {"getD-swap": "get_or-swap"},
+    "scheduler": {"getD-swap": "get_or-swap"},
 }
+# names that are declared inside another declaration
+INNER = ["nothingDue", "popDue", "isScheduled", "nearOf", "struckTo", "chosenTo"]
 
 
 def snake(name):
@@ -59,6 +64,7 @@ def main():
         if path.endswith(".antt"):
             declared.update(DECLARED.findall(text))
     turned = {n: snake(n) for n in declared if n[0].islower() and re.search(r"[a-z0-9][A-Z]", n)}
+    turned.update({n: snake(n) for n in INNER})
     twice = collections.Counter(turned.values())
     for n in sorted(turned):
         if twice[turned[n]] > 1:

@@ -224,11 +224,11 @@ captured-steps w u g a = still u.config w u (captured u) g (captured-same u) (ca
 
 -- ---- registers
 module _ (w : Watch) (u : Timer) (g : Agrees w u) (cycle value : ℕ) where
-  abbrev pub chosenTo : Watch
-  chosenTo = goes_on cycle (made_at u.config w cycle) w.origin (value % 8) w.halts
+  abbrev pub chosen_to : Watch
+  chosen_to = goes_on cycle (made_at u.config w cycle) w.origin (value % 8) w.halts
 
   unfoldable pub Written : ℕ → Noted → Type 0
-  Written place n = Steps u.config w u (cond (selects u.config place) chosenTo w) n
+  Written place n = Steps u.config w u (cond (selects u.config place) chosen_to w) n
 
   plain : (place : ℕ) (n : Noted) → selects u.config place ≡ false → Same u n.timer → raisers u.config.tov n.log ≡ 0 → Written place n
   unfolding Written
@@ -300,8 +300,8 @@ and_second true b e = e
 and_second false b e = absurd (false≢true e)
 
 module _ (w : Watch) (u : Timer) (g : Agrees w u) (cycle pin level : ℕ) where
-  struckTo : Watch
-  struckTo = goes_on cycle (made_at u.config w cycle + 1) w.origin w.select w.halts
+  struck_to : Watch
+  struck_to = goes_on cycle (made_at u.config w cycle + 1) w.origin w.select w.halts
 
   edge-idle : edge_ticks u pin level ≡ true → running_of u ≡ false
   unfolding edge_ticks ticks_on running_of divisor_of
@@ -316,8 +316,8 @@ module _ (w : Watch) (u : Timer) (g : Agrees w u) (cycle pin level : ℕ) where
       let i : is_pin u.config.icr.wire pin ≡ true = and_first _ _ (and_first (is_pin u.config.icr.wire pin && not u.halts.routed) _ c) in
       true≢false (sym i ∙ t)
 
-  struck-steps : accepted u.config ≡ true → Normal u → u.counter.count ≤ max_at u.config.wide → edge_ticks u pin level ≡ true → Steps u.config w u struckTo (struck (sync_to u cycle))
-  unfolding struck sync_to setting_at wave_of mode_of struckTo
+  struck-steps : accepted u.config ≡ true → Normal u → u.counter.count ≤ max_at u.config.wide → edge_ticks u pin level ≡ true → Steps u.config w u struck_to (struck (sync_to u cycle))
+  unfolding struck sync_to setting_at wave_of mode_of struck_to
   struck-steps a n l e =
       let y : Timer = sync_to u cycle in
       let s = solo y a in
@@ -333,12 +333,12 @@ module _ (w : Watch) (u : Timer) (g : Agrees w u) (cycle pin level : ℕ) where
       }
 
   Struck : Noted → Type 0
-  Struck n = Steps u.config w u (cond (strikes u.config w pin level) struckTo w) n
+  Struck n = Steps u.config w u (cond (strikes u.config w pin level) struck_to w) n
 
   pub edge-steps : accepted u.config ≡ true → Normal u → u.counter.count ≤ max_at u.config.wide
       → Steps u.config w u (cond (strikes u.config w pin level) (goes_on cycle (made_at u.config w cycle + 1) w.origin w.select w.halts) w)
       (cond (edge_captures u pin level) (captured u) (cond (edge_ticks u pin level) (struck (sync_to u cycle)) (silent u)))
-  unfolding Struck struckTo
+  unfolding Struck struck_to
   edge-steps a n l =
       cond-case Struck (edge_captures u pin level)
       (λ c. go (edge_ticks u pin level) refl c)

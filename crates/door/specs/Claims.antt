@@ -5,7 +5,7 @@ use Rattle.door.specs.declared.Rule.TheVariants.{One, Two}
 use Rattle.door.specs.declared.Door.{Door}
 use Rattle.door.specs.declared.Set.{Set}
 use Rattle.door.specs.declared.Set.TheVariants.{Refused, Made}
-use Rattle.door.specs.Door.{idle, begins, set_to, number_of, late, edged, Close, due_at, nothingDue, close_of, Valid}
+use Rattle.door.specs.Door.{idle, begins, set_to, number_of, late, edged, Close, due_at, nothing_due, close_of, Valid}
 
 -- the door after a list of edges, each taken or refused
 unfoldable pub after : Door → List ℕ → Door
@@ -37,7 +37,7 @@ same_hold d (edge ∷ edges) = not (begins_hold d edge) && same_hold (edged d ed
 -- the close is due, and no later than a cycle
 abbrev pub DueBy : ℕ → Close → Type 0
 DueBy cycle (due_at due) = due ≤ cycle
-DueBy cycle nothingDue = ⊥
+DueBy cycle nothing_due = ⊥
 
 -- "no stream of edges moves a hold's due past its own first edge + cap"
 pub record CappedBy (cap : ℕ) (door : Door) : Type 0 where
@@ -53,9 +53,9 @@ Capped = (hold quiet cap : ℕ) (door : Door) → Makes (Two hold quiet cap) doo
 -- the close is due under both rules, or under none, and under rule two no later than under rule one
 abbrev pub NotAfter : Close → Close → Type 0
 NotAfter (due_at two) (due_at one) = two ≤ one
-NotAfter (due_at two) nothingDue = ⊥
-NotAfter nothingDue (due_at one) = ⊥
-NotAfter nothingDue nothingDue = Unit {0}
+NotAfter (due_at two) nothing_due = ⊥
+NotAfter nothing_due (due_at one) = ⊥
+NotAfter nothing_due nothing_due = Unit {0}
 
 -- "nor past rule one's due for the same edges and hold"
 pub record NoLaterThan (one two : Door) (edges : List ℕ) : Type 0 where
@@ -111,7 +111,7 @@ readings =
     record { rule = One 100; number = 0; steps = takes 0 100 ∷ takes 30 130 ∷ takes 60 160 ∷ takes 120 220 ∷ takes 200 300 ∷ takes 250 350 ∷ takes 251 351 ∷ [] }
     ∷ record { rule = Two 100 50 250; number = 0; steps = takes 0 100 ∷ takes 30 100 ∷ takes 60 160 ∷ takes 120 220 ∷ takes 200 250 ∷ takes 250 350 ∷ takes 251 350 ∷ [] }
     ∷ record { rule = Two 100 50 250; number = 0; steps = takes 7 107 ∷ takes 56 107 ∷ takes 57 157 ∷ takes 156 256 ∷ takes 206 257 ∷ takes 256 257 ∷ takes 257 357 ∷ [] }
-    ∷ record { rule = Two 100 50 250; number = 0; steps = refuses (2 ^ 62) 2 nothingDue ∷ takes 10 110 ∷ refuses 9 3 (due_at 110) ∷ takes (2 ^ 62 - 1) (2 ^ 62 + 99) ∷ [] }
+    ∷ record { rule = Two 100 50 250; number = 0; steps = refuses (2 ^ 62) 2 nothing_due ∷ takes 10 110 ∷ refuses 9 3 (due_at 110) ∷ takes (2 ^ 62 - 1) (2 ^ 62 + 99) ∷ [] }
     ∷ record { rule = Two (2 ^ 40) (2 ^ 40) (2 ^ 40); number = 0; steps = takes 1 (2 ^ 40 + 1) ∷ [] }
     ∷ record { rule = One 0; number = 22; steps = [] }
     ∷ record { rule = One (2 ^ 40 + 1); number = 22; steps = [] }

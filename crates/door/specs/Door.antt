@@ -93,11 +93,11 @@ edged d cycle = record { number = late d cycle; door = cond (eqb (late d cycle) 
 -- when the close is due: at a cycle, or not at all while there is no hold
 pub data Close : Type 0 where
   due_at : ℕ → Close
-  nothingDue : Close
+  nothing_due : Close
 
 -- when the close of a door is due
 abbrev pub close_of : Door → Close
-close_of d = cond d.holding (due_at d.due.0) nothingDue
+close_of d = cond d.holding (due_at d.due.0) nothing_due
 
 -- the number of each case of `due`'s answer: 02 has no refusal for it
 abbrev pub due_number : Due → ℕ
@@ -107,12 +107,12 @@ due_number Nothing = 0
 -- the values of each case of `due`'s answer
 abbrev pub due_values : Due → Close
 due_values (At cycle) = due_at cycle.0
-due_values Nothing = nothingDue
+due_values Nothing = nothing_due
 
 -- the answer that values say
 abbrev pub due_of : Close → Due
 due_of (due_at cycle) = At (record { 0 = cycle })
-due_of nothingDue = Nothing
+due_of nothing_due = Nothing
 
 -- DueDetermined: the values determine the answer, its case too
 abbrev pub DueDetermined : Type 0

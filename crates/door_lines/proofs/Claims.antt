@@ -7,7 +7,7 @@ use Rattle.figures.specs.Figures.{text}
 use Rattle.words.specs.Words.{skip_of, find_of, place_of}
 use Rattle.words.specs.Numbers.{between}
 use Rattle.page.proofs.Lengths.{said, numbered, either, unreadable-short}
-use Rattle.door.specs.Door.{set_to, edged, Close, due_at, nothingDue, close_of}
+use Rattle.door.specs.Door.{set_to, edged, Close, due_at, nothing_due, close_of}
 use Rattle.door.specs.declared.Edged.{Edged}
 use Rattle.door.specs.declared.Set.{Set}
 use Rattle.door.specs.declared.Set.TheVariants as set
@@ -23,7 +23,7 @@ Brief x = length x.bytes ≤ 49
 due-short : (d : Close) → length (due_line d) ≤ 49
 unfolding due_line
 due-short (due_at cycle) = numbered _ _ cycle (omega arith)
-due-short nothingDue = said _ (omega arith)
+due-short nothing_due = said _ (omega arith)
 
 rule-short : (d : Doors) (s : Set) → Brief (ruled_of d s)
 unfolding ruled_of

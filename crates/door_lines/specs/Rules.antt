@@ -4,7 +4,7 @@ use Rattle.figures.specs.Figures.{text, number}
 use Rattle.words.specs.Words.{skip_of, find_of, place_of}
 use Rattle.words.specs.Numbers.{between}
 use Rattle.page.specs.Page.{Puts, unreadable_of}
-use Rattle.door.specs.Door.{SetValid, set_to, edged, Close, due_at, nothingDue, close_of}
+use Rattle.door.specs.Door.{SetValid, set_to, edged, Close, due_at, nothing_due, close_of}
 use Rattle.door.specs.declared.Door.{Door}
 use Rattle.door.specs.declared.Edged.{Edged}
 use Rattle.door.specs.declared.Rule.{Rule}
@@ -27,7 +27,7 @@ saying d bytes = record { doors = d; bytes = bytes }
 -- "ok due=N": "when the close is due"
 unfoldable pub due_line : Close → List ℕ
 due_line (due_at cycle) = text "ok due=" ++ number cycle
-due_line nothingDue = text "ok due=none"
+due_line nothing_due = text "ok due=none"
 
 -- a door that is kept, and when its close is due
 abbrev pub kept_of : Door → Lined

@@ -6,7 +6,7 @@ use Rattle.door.specs.declared.Door.{Door}
 use Rattle.door.specs.declared.Set.{Set}
 use Rattle.door.specs.declared.Set.TheVariants as set
 use Rattle.door.specs.declared.Edged.{Edged}
-use Rattle.door.specs.Door.{Close, due_at, nothingDue, close_of}
+use Rattle.door.specs.Door.{Close, due_at, nothing_due, close_of}
 use Rattle.doorlog.specs.declared.doors.Terms.{Terms}
 use Rattle.doorlog.specs.declared.doors.Kept.{Kept}
 use Rattle.doorlog.specs.declared.doors.Told.{Told}
@@ -31,11 +31,11 @@ kept_of d = record { terms = terms_of d.rule; holding = d.holding; first = d.fir
 -- whether a close is due, and when; 0 where it is not
 abbrev pub pending_of : Close → Bool
 pending_of (due_at cycle) = true
-pending_of nothingDue = false
+pending_of nothing_due = false
 
 abbrev pub cycle_of : Close → ℕ
 cycle_of (due_at cycle) = cycle
-cycle_of nothingDue = 0
+cycle_of nothing_due = 0
 
 -- a number and a door, with when its close is due
 abbrev pub answer_of : ℕ → Door → Told

@@ -104,9 +104,9 @@ abbrev pub from : ℕ → List Event → ℕ → ℕ
 from i l k = cond (eqb k i) (length l - 1) k
 
 module _ (i : ℕ) (l : List Event) (h : i < length l) where
-  pub getD-swap : (k : ℕ) → k < length l - 1 → get_or (swap_removed i l) k blank ≡ get_or l (from i l k) blank
+  pub get_or-swap : (k : ℕ) → k < length l - 1 → get_or (swap_removed i l) k blank ≡ get_or l (from i l k) blank
   unfolding swap_removed
-  getD-swap k q = get_or-take (length l - 1) (set l i (get_or l (length l - 1) blank)) k blank q ∙ go (eqb k i) refl
+  get_or-swap k q = get_or-take (length l - 1) (set l i (get_or l (length l - 1) blank)) k blank q ∙ go (eqb k i) refl
     where
       go : (b : Bool) → eqb k i ≡ b → get_or (set l i (get_or l (length l - 1) blank)) k blank ≡ get_or l (cond b (length l - 1) k) blank
       go true e = rw (eqb-true k i e) (get_or-set_same l i (get_or l (length l - 1) blank) blank h)
@@ -125,12 +125,12 @@ module _ (i : ℕ) (l : List Event) (h : i < length l) where
       let n = length-swap i l in
       let m = earliest-met l (omega arith) in
       earliest-is (swap_removed i l) (earliest l) (kept m (eqb m.place (length l - 1)) refl)
-      (λ k q. let q : k < length l - 1 = omega arith in rw (getD-swap k q) (earliest-low l (from i l k) (from-within k q)))
+      (λ k q. let q : k < length l - 1 = omega arith in rw (get_or-swap k q) (earliest-low l (from i l k) (from-within k q)))
     where
       at : (m : Met l (earliest l)) (k : ℕ) → k < length l - 1 → from i l k ≡ m.place → Met (swap_removed i l) (earliest l)
       at m k q e =
           let n = length-swap i l in
-          record { place = k; within = omega arith; cycle = ap (λ (x : Event). x.cycle) (getD-swap k q ∙ ap (λ (j : ℕ). get_or l j blank) e) ∙ m.cycle }
+          record { place = k; within = omega arith; cycle = ap (λ (x : Event). x.cycle) (get_or-swap k q ∙ ap (λ (j : ℕ). get_or l j blank) e) ∙ m.cycle }
 
       other : (m : Met l (earliest l)) → m.place ≡ i → ⊥
       other m e = let here : (get_or l i blank).cycle ≡ earliest l = rw (← e) m.cycle in omega arith

@@ -14,7 +14,7 @@ use Rattle.counter.specs.declared.next.Next.TheVariants as next
 use Rattle.events.specs.declared.EventKey.{EventKey}
 use Rattle.events.specs.declared.Event.{Event}
 use Rattle.events.specs.Events.{blank, same, place_of, swap_removed}
-use Rattle.events.proofs.Lists.{position-passes, position-within, from, length-swap, getD-swap, from-within}
+use Rattle.events.proofs.Lists.{position-passes, position-within, from, length-swap, get_or-swap, from-within}
 use Rattle.events.proofs.Places.{kept}
 use Rattle.scheduler.specs.declared.Scheduler.{Scheduler}
 use Rattle.scheduler.specs.Scheduler.{holding, held, holds, put, scheduled, removed}
@@ -230,7 +230,7 @@ module _ (l : List Event) (n m : Id → Next) (i : Id) (once : (p q : ℕ) → p
             let r = from (place_of (key_of i) l) l q in
             let u = from-within (place_of (key_of i) l) l h q v in
             let f = x.sound r u in
-            rw (getD-swap (place_of (key_of i) l) l h q v) (stays f.owner (not-here h r f.owner u (moved q v) (key-of f)) f refl)
+            rw (get_or-swap (place_of (key_of i) l) l h q v) (stays f.owner (not-here h r f.owner u (moved q v) (key-of f)) f refl)
 
         whole : (j : Id) (d : Cycle) (r : ℕ) → m j ≡ next.At d r → Kept (swap_removed (place_of (key_of i) l) l) (event_of j d)
         whole j d r e =
@@ -241,11 +241,11 @@ module _ (l : List Event) (n m : Id → Next) (i : Id) (once : (p q : ℕ) → p
             go : (q : ℕ) → q < length l → get_or l q blank ≡ event_of j d → (q ≡ place_of (key_of i) l → ⊥) → (b : Bool) → ltb q (length l - 1) ≡ b → Kept (swap_removed (place_of (key_of i) l) l) (event_of j d)
             go q w f s true t =
                 let v = ltb-true q (length l - 1) t in
-                record { place = q; within = rw (length-swap (place_of (key_of i) l) l) v; event = getD-swap (place_of (key_of i) l) l h q v ∙ rw (ne_eqb q (place_of (key_of i) l) s) f }
+                record { place = q; within = rw (length-swap (place_of (key_of i) l) l) v; event = get_or-swap (place_of (key_of i) l) l h q v ∙ rw (ne_eqb q (place_of (key_of i) l) s) f }
             go q w f s false t =
                 let u : q ≡ length l - 1 = omega (arith, ltb-false q (length l - 1) t) in
                 let v : place_of (key_of i) l < length l - 1 = omega (arith, s) in
-                record { place = place_of (key_of i) l; within = rw (length-swap (place_of (key_of i) l) l) v; event = getD-swap (place_of (key_of i) l) l h (place_of (key_of i) l) v ∙ rw (eq-eqb (place_of (key_of i) l) (place_of (key_of i) l) refl, ← u) f }
+                record { place = place_of (key_of i) l; within = rw (length-swap (place_of (key_of i) l) l) v; event = get_or-swap (place_of (key_of i) l) l h (place_of (key_of i) l) v ∙ rw (eq-eqb (place_of (key_of i) l) (place_of (key_of i) l) refl, ← u) f }
 
         size : length (swap_removed (place_of (key_of i) l) l) ≡ many (m id.Zero) + (many (m id.One) + many (m id.Two))
         size =

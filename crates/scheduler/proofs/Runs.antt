@@ -16,8 +16,8 @@ use Rattle.events.specs.declared.Event.{Event}
 use Rattle.scheduler.specs.declared.Scheduler.{Scheduler}
 use Rattle.events.specs.Events.{blank, same, place_of, earliest, foremost, swap_removed}
 use Rattle.scheduler.specs.Scheduler.{holding, held, holds, refuses, put, scheduled, removed, popped, Valid}
-use Rattle.scheduler.specs.Runs.{Call, at, cancel, isScheduled, popDue, clear, next, after, run, Sound, Always}
-use Rattle.events.proofs.Lists.{position-passes, position-within, earliest-low, earliest-met, foremost-within, from, length-swap, getD-swap, from-within}
+use Rattle.scheduler.specs.Runs.{Call, at, cancel, is_scheduled, pop_due, clear, next, after, run, Sound, Always}
+use Rattle.events.proofs.Lists.{position-passes, position-within, earliest-low, earliest-met, foremost-within, from, length-swap, get_or-swap, from-within}
 use Rattle.events.proofs.Places.{kept, count-is}
 use Rattle.scheduler.proofs.Calls.{made}
 
@@ -100,8 +100,8 @@ swap-good l i g h =
         let n = length-swap i l in
         let p : k < length l - 1 = omega arith in
         let q : j < length l - 1 = omega arith in
-        let s = ap (λ (x : Event). x.key) (getD-swap i l h k p) in
-        let t = ap (λ (x : Event). x.key) (getD-swap i l h j q) in
+        let s = ap (λ (x : Event). x.key) (get_or-swap i l h k p) in
+        let t = ap (λ (x : Event). x.key) (get_or-swap i l h j q) in
         back k j p q (eqb k i) refl (eqb j i) refl (g.once (from i l k) (from i l j) (from-within i l h k p) (from-within i l h j q) (sym s ∙ e ∙ t))
 
 put-good : (key : EventKey) (cycle : ℕ) (l : List Event) → Good l → refuses key l ≡ false → Good (put key cycle l)
@@ -142,8 +142,8 @@ after_kept s (at key cycle) k = go (refuses key (held s)) refl
     go true r = k
     go false r = holding-kept (put key cycle (held s)) (put-good key cycle (held s) k.good r)
 after_kept s (cancel key) k = holding-kept (removed key (held s)) (removed-good key (held s) k.good)
-after_kept s (isScheduled key) k = k
-after_kept s (popDue now) k = go (leb (earliest (held s)) now) (ltb 0 (length (held s))) refl
+after_kept s (is_scheduled key) k = k
+after_kept s (pop_due now) k = go (leb (earliest (held s)) now) (ltb 0 (length (held s))) refl
   where
     go : (a b : Bool) → ltb 0 (length (held s)) ≡ b
         → Kept (cond {A = Option Event × Scheduler} (a && b) (some (get_or (held s) (foremost (held s)) blank), holding (swap_removed (foremost (held s)) (held s))) (none, s)).1

@@ -9,8 +9,8 @@ use Rattle.scheduler.specs.Scheduler.{holding, held, Valid, scheduled, removed, 
 pub data Call : Type 0 where
   at : EventKey → ℕ → Call
   cancel : EventKey → Call
-  isScheduled : EventKey → Call
-  popDue : ℕ → Call
+  is_scheduled : EventKey → Call
+  pop_due : ℕ → Call
   clear : Call
   next : Call
 
@@ -18,8 +18,8 @@ pub data Call : Type 0 where
 unfoldable pub after : Scheduler → Call → Scheduler
 after s (at key cycle) = (scheduled key cycle s).1
 after s (cancel key) = holding (removed key (held s))
-after s (isScheduled key) = s
-after s (popDue now) = (popped now s).1
+after s (is_scheduled key) = s
+after s (pop_due now) = (popped now s).1
 after s clear = holding []
 after s next = s
 

@@ -121,16 +121,16 @@ fit-after {c} {shift} {room} {a} {before} {b} f m r =
 -- ---- the tick is struck
 module _ (s : Setting) (p : Prescaler) (d : ℤ) (o first : ℕ) where
   -- what moves before the event's tick
-  abbrev nearOf : Rise → Moving
-  nearOf r = record { counter = record { count = r.count + r.gap; direction = d; blocked = false; odometer = counted (counted o (tick_in p r - first)) r.gap }; ocr = r.ocr; oc = r.oc; drives = r.drives; tifr = r.tifr }
+  abbrev near_of : Rise → Moving
+  near_of r = record { counter = record { count = r.count + r.gap; direction = d; blocked = false; odometer = counted (counted o (tick_in p r - first)) r.gap }; ocr = r.ocr; oc = r.oc; drives = r.drives; tifr = r.tifr }
 
-  near-is : (r : Rise) → leb s.wave.kind F ≡ true → near_in s p d o first r ≡ nearOf r
+  near-is : (r : Rise) → leb s.wave.kind F ≡ true → near_in s p d o first r ≡ near_of r
   unfolding linear moved
   near-is r k = simp (no-fall s (run_in p d o first r).moving (record { kind = k; free = refl }))
 
-  near-bottom : (r : Rise) → leb s.wave.kind F ≡ true → r.top ≡ top_of s.wave (get_or r.ocr 0 0) → (events_of s (nearOf r)).bottom ≡ bottom_in (scene_of s) r
+  near-bottom : (r : Rise) → leb s.wave.kind F ≡ true → r.top ≡ top_of s.wave (get_or r.ocr 0 0) → (events_of s (near_of r)).bottom ≡ bottom_in (scene_of s) r
   unfolding scene_of
-  near-bottom r k e = bottom-is s (nearOf r) (record { kind = k; free = refl }) ∙ rw e
+  near-bottom r k e = bottom-is s (near_of r) (record { kind = k; free = refl }) ∙ rw e
 
 same-moving : {d : ℤ} {count₁ count₂ o₁ o₂ tifr₁ tifr₂ : ℕ} {ocr₁ ocr₂ oc₁ oc₂ : List ℕ} {d₁ d₂ : Drives}
     → count₁ ≡ count₂ → o₁ ≡ o₂ → ocr₁ ≡ ocr₂ → oc₁ ≡ oc₂ → d₁ ≡ d₂ → tifr₁ ≡ tifr₂
@@ -145,7 +145,7 @@ scene-buffer s = refl
 
 module _ {s : Setting} {p : Prescaler} {d : ℤ} {o first shift : ℕ} {a : Rise} {before : List ℕ} {b : Rise} {after : List ℕ} (e : p.divisor ≡ 2 ^ shift) (k : Known s p d o first a) (m : Makes (scene_of s) shift a before b after) where
   abbrev near : Moving
-  near = nearOf s p d o first a
+  near = near_of s p d o first a
 
   rising : Rising s near
   rising = record { kind = k.kind; free = refl }
@@ -199,7 +199,7 @@ module _ {s : Setting} {p : Prescaler} {d : ℤ} {o first shift : ℕ} {a : Rise
   struck-flags =
       m.flags
       ∙ ap (λ (t : ℕ). raised_at (scene_of s) (b.count + b.gap) t b.ocr) struck-top
-      ∙ raised_is s (nearOf s p d o first b) (record { kind = k.kind; free = refl }) k.apart
+      ∙ raised_is s (near_of s p d o first b) (record { kind = k.kind; free = refl }) k.apart
       ∙ sym (ap (λ (q : Moving). up_now s q) (near-is s p d o first b k.kind))
 
   struck-known : Known s p d o first b
