@@ -1,10 +1,10 @@
--- `page::number` meets its contract: the digits are put from a line of their own.
+-- The digits are put from a line of their own.
 use Rattle.page.proofs.Sheets.{then, number-length}
 use Rattle.figures.proofs.Writing.{wrote-read, number-decimal}
 use lib.ListN.{length-take}
 use native.Mathlib.Omega.{arith}
 use borrow.Author.Rules.{rules}
-use Rattle.page.proofs.number.Goals as goal
+use Rattle.page.proofs.Page.number.Goals as goal
 
 pub number-k-requires : goal.number-k-requires
 number-k-requires c = omega (arith, number-length c.args.n (search rules))
@@ -19,4 +19,4 @@ pub returns : goal.returns
 returns c =
     let number = c.number-k in
     let r = wrote-read number.ensures (omega (arith, number-length c.args.n (search rules))) in
-    rw (← number-decimal c.args.n (search rules), ← r) (then c.text-at.ensures c.text.ensures)
+    rw (← number-decimal c.args.n (search rules), ← r) (then c.text.ensures c.text-2.ensures)
