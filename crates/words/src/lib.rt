@@ -29,20 +29,6 @@ pub const TOO_LONG: u8 = 8;
 
 pub const NOT_OPENED: u8 = 9;
 
-// Why a line cannot be read.
-#[derive(Clone, Copy, PartialEq, Eq)]
-pub enum Unreadable {
-    UnknownCommand,
-    UnknownKey,
-    UnknownName,
-    MissingWord,
-    ExtraWord,
-    Malformed,
-    TooLarge,
-    TooLong,
-    NotOpened,
-}
-
 // What a word says, 0 where it cannot be read.
 #[derive(Clone, Copy)]
 pub struct Read {
