@@ -9,7 +9,7 @@ use counter::next::Next;
 use page::Page;
 
 // Puts a label and the bytes written, `-` where there are none.
-#[tactic(auto, using(page::proofs::Sheets::then), unfolding(crate::specs::Answers::bytes_of, figures::specs::Figures::codes))]
+#[tactic(auto, using(page::proofs::Sheets::then, crate::proofs::Hexes::hexes_none, crate::proofs::Hexes::hexes_more, crate::proofs::Hexes::bytes_all), unfolding(crate::specs::Answers::bytes_of, figures::specs::Figures::codes))]
 pub fn bytes(page: &mut Page, label: &[u8], area: &[u8], written: usize)
     ensures { Puts page.old page.new (bytes_of label.now area.now written) }
 {
