@@ -11,6 +11,7 @@ use lib.Seq.{length-take-le}
 use Rattle.time.specs.declared.units.Cycle.{Cycle}
 use Rattle.time.specs.Units.{ticks_at, cycle_at}
 use Rattle.time.proofs.Clocks.{ticks-mono, cycle-mono, tick-before}
+use Rattle.wdtcsr.specs.declared.state.Moving.{Moving}
 use Rattle.oscillator.specs.declared.passing.Finished.{Finished}
 use Rattle.oscillator.specs.declared.state.Watchdog.{Watchdog}
 use Rattle.oscillator.specs.State.{moving_to, synced_at, Valid}
@@ -30,9 +31,6 @@ module _ (w : Watchdog) (cycle : ℕ) (v : Valid w) (l : w.latest.0 ≤ cycle) (
       record { sound = v.sound; upto = omega arith; cycles = omega arith }
 
   module _ {area : List ℕ} {r : Finished} {after : List ℕ} (g : Finishes w.moving a b area r after) (n : length after ≡ length area) where
-    pub last-cycle : cycle_at oscillator (last_of b r.paused) < 2 ^ 64
-    last-cycle = let c = cycle-mono oscillator (last_of b r.paused) b g.upto in let h = end-cycle in omega arith
-
     -- the run by ticks ends there
     ran : run_of ticks w cycle (λ k. leb k (length area)) ≡ record { moving = r.moving; at = last_of b r.paused; bytes = take r.written after; paused = is_some r.paused }
     unfolding run_of start due
@@ -54,3 +52,11 @@ module _ (w : Watchdog) (cycle : ℕ) (v : Valid w) (l : w.latest.0 ≤ cycle) (
             × (option_map (λ (at : Ticks). record { 0 = max w.sync.0 (cycle_at oscillator at.0) }) r.paused ≡ cond (run_of ticks w cycle (λ k. leb k (length area))).paused (Some x.sync) None)
         kept None e = (rw (ran, ep, e) refl, rw (ran, e) refl)
         kept (Some at) e = (rw (ran, ep, e) refl, rw (ran, ex, ep, e) refl)
+
+-- the last tick of a run that stopped has a cycle
+pub last_cycle : {m : Moving} {from end cycle : ℕ} {before after : List ℕ} {r : Finished} {at : Ticks} → Finishes m from end before r after → end ≡ ticks_at oscillator cycle → cycle < 2 ^ 62
+    → r.paused ≡ Some at → cycle_at oscillator at.0 < 2 ^ 64
+last_cycle {end = end} {cycle = cycle} {at = at} g ee u e =
+    let c = cycle-mono oscillator at.0 end (rw e at g.upto) in
+    let h = tick-before oscillator cycle (omega arith) in
+    omega (arith, rw ee at c)

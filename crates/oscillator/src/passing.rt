@@ -69,6 +69,7 @@ impl Watchdog {
     }
 
     // The watchdog at a cycle, or paused before the first time-out whose record does not fit the area.
+    #[tactic(auto, using(crate::proofs::Advances::last_cycle))]
     pub fn advance(self, cycle: Cycle, area: &mut [u8]) -> Advanced
         requires { (Valid self) × (self.latest.0 ≤ cycle.0) × (cycle.0 < 2 ^ 62) }
         ensures { Advances self cycle.0 area.old result area.new }

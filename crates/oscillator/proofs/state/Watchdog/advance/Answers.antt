@@ -3,16 +3,11 @@ use Rattle.std.specs.Prelude.{option_map}
 use Rattle.time.specs.declared.units.Ticks.{Ticks}
 use Rattle.time.specs.Units.{cycle_at}
 use Rattle.oscillator.specs.Oscillator.{oscillator}
-use Rattle.oscillator.proofs.Advances.{run-ready, last-cycle, advances}
+use Rattle.oscillator.proofs.Advances.{run-ready, advances}
 use Rattle.oscillator.proofs.state.Watchdog.advance.Goals as goal
 
 pub run-run-requires : goal.run-run-requires
 run-run-requires c = run-ready c.args.self c.args.cycle.0 c.requires.0 c.requires.1 c.requires.2 c.ticks-first.ensures c.ticks-end.ensures
-
-pub map-paused-requires : goal.map-paused-requires
-map-paused-requires c =
-    let h = last-cycle c.args.self c.args.cycle.0 c.requires.0 c.requires.1 c.requires.2 c.ticks-first.ensures c.ticks-end.ensures c.run-run.ensures c.run-run.auto.area in
-    λ x e _ _ _ _ _. rw e at h
 
 pub returns : goal.returns
 returns c =
