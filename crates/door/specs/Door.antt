@@ -66,8 +66,8 @@ edge_taken d cycle = edge_after d d.hold cycle
 
 -- the refusals' numbers (01, "Calls turned away")
 abbrev pub refusal_number : Refusal → ℕ
-refusal_number refusal.TooLarge = 2
-refusal_number refusal.TooEarly = 3
+refusal_number refusal.CycleTooLarge = 2
+refusal_number refusal.CyclePassed = 3
 refusal_number refusal.Rule = 22
 
 -- the number that a call answers; 0 for none
@@ -81,7 +81,7 @@ set_to rule = cond (accepted rule) (Ok (idle rule)) (Err refusal.Rule)
 
 -- 01's cycle refusals (01, "Calls turned away"): over 2^62 − 1, and below the latest accepted
 unfoldable pub on_time : Door → ℕ → Result ⊤ Refusal
-on_time d cycle = cond (ltb (2 ^ 62 - 1) cycle) (Err refusal.TooLarge) (cond (ltb cycle d.latest.0) (Err refusal.TooEarly) (Ok tt))
+on_time d cycle = cond (ltb (2 ^ 62 - 1) cycle) (Err refusal.CycleTooLarge) (cond (ltb cycle d.latest.0) (Err refusal.CyclePassed) (Ok tt))
 
 -- the door after an edge that is on time, or the edge's refusal
 abbrev pub edged_on : Result ⊤ Refusal → Door → Result Door Refusal

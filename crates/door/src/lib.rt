@@ -37,9 +37,9 @@ pub struct Door {
 #[derive(Clone, Copy, PartialEq, Eq)]
 pub enum Refusal {
     // The cycle is over 2^62 - 1.
-    TooLarge,
+    CycleTooLarge,
     // The cycle is below the latest accepted.
-    TooEarly,
+    CyclePassed,
     // A number of the rule is out of range, or its cap below its hold.
     Rule,
 }
@@ -50,8 +50,8 @@ impl Refusal {
         ensures { result ≡ refusal_number self }
     {
         match self {
-            Refusal::TooLarge => 2,
-            Refusal::TooEarly => 3,
+            Refusal::CycleTooLarge => 2,
+            Refusal::CyclePassed => 3,
             Refusal::Rule => 22,
         }
     }
@@ -132,8 +132,8 @@ impl Door {
     {
         match cycle.refusal(self.latest) {
             0 => Ok(()),
-            2 => Err(Refusal::TooLarge),
-            _ => Err(Refusal::TooEarly),
+            2 => Err(Refusal::CycleTooLarge),
+            _ => Err(Refusal::CyclePassed),
         }
     }
 
