@@ -9,8 +9,9 @@ use mathlib.Core.List.{List, [], ◌∷◌, ◌++◌, map}
 use lib.Dec.{eqb}
 use lib.ListN.{length, get_or, set, length-set, length-take}
 use lib.Seq.{get_or-set_same, get_or-set_other, get_or-take}
-use borrow.Author.Tests.{eq-eqb, ne_eqb, eqb-true, eqb-false}
-use Rattle.std.specs.List.{fold, position_or_len}
+use borrow.Author.Tests.{lt-ltb, eq-eqb, ne_eqb, eqb-true, eqb-false}
+use Rattle.std.specs.Prelude.{None}
+use Rattle.std.specs.List.{fold, position, position_or_len}
 use Rattle.std.proofs.lemmas.List.Sums.{fails_before_first}
 use Rattle.events.specs.declared.Event.{Event}
 use Rattle.events.specs.Events.{blank, earliest, foremost, swap_removed, Met}
@@ -76,6 +77,11 @@ pub foremost-within : (l : List Event) → 0 < length l → foremost l < length 
 foremost-within l h =
     let m = earliest-met l h in
     position-within (λ e. eqb e.cycle (earliest l)) l m.place m.within (eq-eqb _ _ m.cycle)
+
+-- no event stands at the earliest cycle only where there is none
+pub foremost_none : (l : List Event) → None ≡ position (λ e. eqb e.cycle (earliest l)) l → length l ≡ 0
+foremost_none [] h = refl
+foremost_none (e ∷ l) h = let w = lt-ltb (foremost (e ∷ l)) (length (e ∷ l)) (foremost-within (e ∷ l) (omega arith)) in let n = rw w at h in cc
 
 -- ---- a swap_remove
 
