@@ -18,7 +18,7 @@ use Rattle.board.specs.Calls.{Areas}
 use Rattle.board.specs.declared.outcome.Outcome.{Outcome}
 use Rattle.board.specs.declared.outcome.Written.{Written}
 use Rattle.board.specs.declared.state.Board.{Board}
-use Rattle.board_lines.specs.Shown.{nexts_of, records_of, answer_of, held_at, board_of}
+use Rattle.board_lines.specs.Shown.{nexts_of, records_of, answer_of, held_at, plans_of, board_of}
 
 -- ---- an order's answer
 
@@ -64,13 +64,19 @@ unfolding held_at
 held-short label (some cycle) = numbered label _ cycle (omega arith)
 held-short label none = simp (length-append, codes-length) (omega arith)
 
-pub board-short : (b : Board) → length (board_of b) ≤ 1877
-unfolding board_of
-board-short b =
+plans-short : (b : Board) → length (plans_of b) ≤ 83
+unfolding plans_of
+plans-short b =
     let zero = held-short " sched=" (cycle_of (key_of id.Zero) (held b.scheduler)) in
     let one = held-short "," (cycle_of (key_of id.One) (held b.scheduler)) in
     let two = held-short "," (cycle_of (key_of id.Two) (held b.scheduler)) in
+    simp (length-append, codes-length, pair-length) (omega arith)
+
+pub board-short : (b : Board) → length (board_of b) ≤ 1877
+unfolding board_of
+board-short b =
+    let h = plans-short b in
     let x = short-state b.zero in
     let y = short-state b.one in
     let z = short-state b.two in
-    simp (length-append, codes-length, pair-length) (omega arith)
+    simp length-append (omega arith)

@@ -41,8 +41,11 @@ held_at label none = label ++ text "none"
 abbrev pub held_of : List ℕ → Scheduler → Id → List ℕ
 held_of label s i = held_at label (cycle_in (key_of i) (held s))
 
--- "board gtccr=VV sched=N,N,N", and "a `state` line for each timer follows"
-unfoldable pub board_of : Board → List ℕ
-board_of b =
+-- "board gtccr=VV sched=N,N,N"
+unfoldable pub plans_of : Board → List ℕ
+plans_of b =
     (text "board gtccr=" ++ pair b.gtccr) ++ held_of (text " sched=") b.scheduler id.Zero ++ held_of (text ",") b.scheduler id.One ++ held_of (text ",") b.scheduler id.Two
-    ++ 10 ∷ [] ++ state_of b.zero ++ 10 ∷ [] ++ state_of b.one ++ 10 ∷ [] ++ state_of b.two
+
+-- and "a `state` line for each timer follows"
+unfoldable pub board_of : Board → List ℕ
+board_of b = plans_of b ++ 10 ∷ [] ++ state_of b.zero ++ 10 ∷ [] ++ state_of b.one ++ 10 ∷ [] ++ state_of b.two
