@@ -15,7 +15,7 @@ use oscillator::state::Watchdog;
 use outcome::{Outcome, Refusal};
 use time::units::Cycle;
 
-// Any call.
+// Any call; one that is turned away leaves the caller's watchdog and area as they were.
 pub fn call(w: Watchdog, c: Call, cycle: Cycle, area: &mut [u8]) -> Result<Outcome, Refusal>
     requires { Valid w }
     ensures { Tells (answered ticks w c cycle.0 area.old) w result area.new }
