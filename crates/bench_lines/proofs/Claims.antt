@@ -7,7 +7,7 @@ use Rattle.words.specs.declared.Unreadable.TheVariants as unreadable
 use Rattle.page.specs.Page.{unreadable_of}
 use Rattle.page.proofs.Lengths.{said, either, unreadable-short}
 use Rattle.board.specs.Calls.{Areas, areas_of}
-use Rattle.board_lines.specs.Asked.{asked_of}
+use Rattle.board_lines.specs.Asked.{asked_of, size_of}
 use Rattle.board_lines.specs.declared.asked.Asked.{Asked}
 use Rattle.board_lines.proofs.Claims.{sized, short as board-short}
 use Rattle.door_lines.proofs.Claims.{short as door-short}
@@ -91,7 +91,7 @@ first_short b line l =
 abbrev Within : Worked → Type 0
 Within x = length x.bytes ≤ 200 + 6 * 4096
 
-ordered-short : (b : Bench) (s : Shelf) (areas : Areas) (r : Result Asked Unreadable) → IfOk r (λ q. q.size ≤ 4096) → Within (ordered_of b s areas r)
+ordered-short : (b : Bench) (s : Shelf) (areas : Areas) (r : Result Asked Unreadable) → IfOk r (λ q. size_of q ≤ 4096) → Within (ordered_of b s areas r)
 unfolding ordered_of
 ordered-short b s areas (Ok q) h = board-short s.board q areas h
 ordered-short b s areas (Err why) h = up (200 + 6 * 4096) (unreadable-short b.line why) (omega arith)

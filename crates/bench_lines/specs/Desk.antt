@@ -2,7 +2,6 @@
 use Rattle.std.specs.Prelude.{◌≤◌, false, [], None, IfSome}
 use Rattle.counter.specs.Valid.{Valid}
 use Rattle.oscillator.specs.State.{Valid as Watchdog-as-Valid}
-use Rattle.scheduler.specs.Scheduler.{holding, Valid as Scheduler-as-Valid}
 use Rattle.door.specs.Door.{Valid as Door-as-Valid}
 use Rattle.record_ring.specs.Log.{empty, Valid as Ring-as-Valid}
 use Rattle.board.specs.State.{Valid as Board-as-Valid}
@@ -20,7 +19,6 @@ pub record Sound (b : Bench) : Type 0 where
 
 -- and of those on the shelf
 pub record Stable (s : Shelf) : Type 0 where
-  pub scheduler : Scheduler-as-Valid s.scheduler
   pub board : IfSome s.board Board-as-Valid
 
 -- before a script's first line there is no timer, no watchdog and no door, the log and the list are empty, and nobody's records are kept
@@ -29,4 +27,4 @@ fresh_bench = record { timer = None; watchdog = None; door = None; ring = empty;
 
 -- the scheduler is empty, and there is no board
 abbrev pub fresh_shelf : Shelf
-fresh_shelf = record { scheduler = holding []; board = None }
+fresh_shelf = record { scheduler = []; board = None }

@@ -19,7 +19,7 @@ use log_lines::{Area, log_line};
 use page::Page;
 use room::Room;
 use timer_lines::made::config_line;
-use timer_lines::named::timer_line;
+use timer_lines::named::{Command, timer_line};
 use wdt_lines::called::wdt_line;
 use words::{Unreadable, decimal, exactly, skip};
 
@@ -51,13 +51,13 @@ pub fn timed(
     page: &mut Page,
     line: &[u8],
     at: usize,
-    name: usize,
+    command: Command,
     room: &mut Room,
 ) -> Bench
     requires { Sound b }
-    ensures { (Says (timed_of b (timer_line b.timer b.line line.now at name room.old)) page.old page.new result) × (room.new ≡ (timer_line b.timer b.line line.now at name room.old).area) }
+    ensures { (Says (timed_of b (timer_line b.timer b.line line.now at command room.old)) page.old page.new result) × (room.new ≡ (timer_line b.timer b.line line.now at command room.old).area) }
 {
-    let left = timer_line(b.timer, page, b.line, line, at, name, room);
+    let left = timer_line(b.timer, page, b.line, line, at, command, room);
     b.timer = left.timer;
     b.kept = kept(b.whose, left.written);
     b

@@ -2,7 +2,7 @@
 
 ghost use Rattle.std.specs.Prelude.{◌≡◌, ◌≤◌, length};
 ghost use Rattle.bench_lines.specs.Desk.{Sound};
-ghost use Rattle.bench_lines.specs.Named.{Leaves, Hears, lent, other_of, command_of, later_of, named_of, worded_of};
+ghost use Rattle.bench_lines.specs.Named.{Leaves, Hears, lent, command_of, later_of, named_of, worded_of};
 
 use crate::desk::Bench;
 use crate::lines::{configured, doored, itemed, listed, logged, recorded, timed, watched};
@@ -11,8 +11,7 @@ use log_lines::Area;
 use page::Page;
 use pin_lines::pin_line;
 use room::Room;
-use timer_lines::named::named;
-use words::{Unreadable, find, place};
+use words::{Unreadable, find};
 
 // What stands on the shelf.
 #[derive(Clone, Copy, PartialEq, Eq)]
@@ -21,10 +20,10 @@ pub enum Device {
     Board,
 }
 
-// A line's command: the timer's by their place among its names, the bench's others, and those of what stands on the shelf.
+// A line's command: one of the timer's, one of the bench's others, or one of what stands on the shelf.
 #[derive(Clone, Copy)]
 pub enum Command {
-    Timer(usize),
+    Timer(timer_lines::named::Command),
     Config,
     Preset,
     Pin,
@@ -53,39 +52,25 @@ pub struct Heard {
 }
 
 impl Command {
-    // The command of a place among the names beside the timer's.
-    #[tactic(auto, unfolding(crate::specs::Named::other_of))]
-    fn other(place: usize) -> Command
-        ensures { result ≡ other_of place }
-    {
-        match place {
-            0 => Command::Config,
-            1 => Command::Preset,
-            2 => Command::Pin,
-            3 => Command::Wdt,
-            4 => Command::Writes,
-            5 => Command::Item,
-            6 => Command::Door,
-            7 => Command::Log,
-            8 => Command::Record,
-            9 => Command::Shelf(Device::Scheduler),
-            _ => Command::Shelf(Device::Board),
-        }
-    }
-
-    // The command of a word.
+    // The command of a line's first word.
     #[tactic(auto, unfolding(crate::specs::Named::command_of, figures::specs::Figures::codes))]
     fn of(word: &[u8]) -> Option<Command>
         ensures { result ≡ command_of word.now }
     {
-        if let Some(name) = named(word) {
-            return Some(Command::Timer(name));
+        match word {
+            b"config" => Some(Command::Config),
+            b"preset" => Some(Command::Preset),
+            b"pin" => Some(Command::Pin),
+            b"wdt" => Some(Command::Wdt),
+            b"writes" => Some(Command::Writes),
+            b"item" => Some(Command::Item),
+            b"door" => Some(Command::Door),
+            b"log" => Some(Command::Log),
+            b"record" => Some(Command::Record),
+            b"sched" => Some(Command::Shelf(Device::Scheduler)),
+            b"board" => Some(Command::Shelf(Device::Board)),
+            _ => timer_lines::named::named(word).map(Command::Timer),
         }
-        let place = place(
-            b"config preset pin wdt writes item door log record sched board",
-            word,
-        )?;
-        Some(Command::other(place))
     }
 
     // What the command asks of the shelf, of a line from the place after its name to its end.
@@ -115,7 +100,7 @@ fn line_of(
     ensures { Leaves (named_of b line.now at command (lent room.old area.old items.old)) page.old page.new room.new area.new items.new result }
 {
     match command {
-        Command::Timer(name) => timed(b, page, line, at, name, room),
+        Command::Timer(command) => timed(b, page, line, at, command, room),
         Command::Config => configured(b, page, line, at, false),
         Command::Preset => configured(b, page, line, at, true),
         Command::Pin => {
