@@ -16,7 +16,7 @@ use crate::files::filed;
 use crate::pages::{flush, turned};
 use bench_lines::desk::{Bench, Desk, Shelf};
 use linewise::Line;
-use list_lines::made::{Items, LIST};
+use list_lines::made::Items;
 use log_lines::Area;
 use page::Page;
 use record_ring::BYTES;
@@ -82,7 +82,7 @@ fn main(rt: HostRuntime) {
     let mut one = [FILL; ROOM];
     let mut two = [FILL; ROOM];
     let mut area = [FILL; BYTES];
-    let mut items = [0u8; LIST];
+    let mut items = Items::new();
     let mut page = Page::new();
     let mut desk = Desk {
         bench: Bench::new(),

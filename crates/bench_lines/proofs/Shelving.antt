@@ -36,7 +36,7 @@ module _ (d : Desk) (sound : Sound d.bench) (stable : Stable d.shelf) (old new :
     shelf = ap (λ (y : Option Board). record { scheduler = d.shelf.scheduler; board = y }) l.board;
     puts = l.puts;
     areas = rw (l.zero, l.one, l.two);
-    sound = record { timer = sound.timer; watchdog = sound.watchdog; door = sound.door; ring = sound.ring; items = sound.items };
+    sound = record { timer = sound.timer; watchdog = sound.watchdog; door = sound.door; ring = sound.ring };
     stable = record { board = l.valid };
   }
 

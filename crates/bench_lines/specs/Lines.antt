@@ -8,7 +8,6 @@ use Rattle.page.specs.Page.{Puts, unreadable_of}
 use Rattle.counter.specs.declared.state.Timer.{Timer}
 use Rattle.door.specs.declared.Door.{Door}
 use Rattle.door_lines.specs.Rules as door
-use Rattle.list_lines.specs.Items as item
 use Rattle.list_lines.specs.Lists as list
 use Rattle.log_lines.specs.Logged as log
 use Rattle.oscillator.specs.declared.state.Watchdog.{Watchdog}
@@ -29,10 +28,10 @@ pub record Told : Type 0 where
 abbrev pub telling : Bench → List ℕ → Told
 telling b bytes = record { bench = b; bytes = bytes }
 
--- the bench with another timer and number of items, and so many bytes for the file
-abbrev pub worked : Bench → Option Timer → ℕ → ℕ → Bench
-worked b t items kept =
-    record { timer = t; watchdog = b.watchdog; door = b.door; ring = b.ring; items = items; line = b.line; whose = b.whose; kept = kept; anew = b.anew }
+-- the bench with another timer, and so many bytes for the file
+abbrev pub worked : Bench → Option Timer → ℕ → Bench
+worked b t kept =
+    record { timer = t; watchdog = b.watchdog; door = b.door; ring = b.ring; line = b.line; whose = b.whose; kept = kept; anew = b.anew }
 
 -- "the records of every call on the timer, `writes` too": the file takes them where it is the script's timer's
 unfoldable pub kept_of : Whose → ℕ → ℕ
@@ -44,12 +43,12 @@ kept_of whose.Nobody written = 0
 
 -- a timer's line
 abbrev pub timed_of : Bench → timer.Lined → Told
-timed_of b x = telling (worked b x.timer b.items (kept_of b.whose x.written)) x.bytes
+timed_of b x = telling (worked b x.timer (kept_of b.whose x.written)) x.bytes
 
 -- the bench with another timer, and whether the file is begun anew
 abbrev pub making : Bench → Option Timer → Bool → Bench
 making b t anew =
-    record { timer = t; watchdog = b.watchdog; door = b.door; ring = b.ring; items = b.items; line = b.line; whose = b.whose; kept = b.kept; anew = anew }
+    record { timer = t; watchdog = b.watchdog; door = b.door; ring = b.ring; line = b.line; whose = b.whose; kept = b.kept; anew = anew }
 
 -- does the file take the script's timer's records
 unfoldable pub on_script : Whose → Bool
@@ -65,7 +64,7 @@ configured_of b x = telling (making b x.timer (x.fresh && on_script b.whose)) x.
 
 -- the bench with another watchdog, another door, another log
 abbrev pub keeping : Bench → Option Watchdog → Option Door → Ring → Bench
-keeping b w d ring = record { timer = b.timer; watchdog = w; door = d; ring = ring; items = b.items; line = b.line; whose = b.whose; kept = b.kept; anew = b.anew }
+keeping b w d ring = record { timer = b.timer; watchdog = w; door = d; ring = ring; line = b.line; whose = b.whose; kept = b.kept; anew = b.anew }
 
 -- a watchdog's line: its records "are not among them"
 abbrev pub watched_of : Bench → wdt.Lined → Told
@@ -73,11 +72,7 @@ watched_of b x = telling (keeping b x.watchdog b.door b.ring) x.bytes
 
 -- `writes`
 abbrev pub listed_of : Bench → list.Lined → Told
-listed_of b x = telling (worked b x.timer x.items (kept_of b.whose x.written)) x.bytes
-
--- `item`
-abbrev pub itemed_of : Bench → item.Added → Told
-itemed_of b x = telling (worked b b.timer x.items b.kept) x.bytes
+listed_of b x = telling (worked b x.timer (kept_of b.whose x.written)) x.bytes
 
 -- a door's line
 abbrev pub doored_of : Bench → door.Lined → Told
@@ -99,7 +94,7 @@ whose_of line at =
 -- "answers `ok recording`", and "the file is begun anew here"
 unfoldable pub recorded_of : Bench → Result Whose Unreadable → Told
 recorded_of b (Ok w) =
-    telling (record { timer = b.timer; watchdog = b.watchdog; door = b.door; ring = b.ring; items = b.items; line = b.line; whose = w; kept = b.kept; anew = true }) (text "ok recording")
+    telling (record { timer = b.timer; watchdog = b.watchdog; door = b.door; ring = b.ring; line = b.line; whose = w; kept = b.kept; anew = true }) (text "ok recording")
 recorded_of b (Err why) = telling b (unreadable_of b.line why)
 
 -- what the code leaves is what the line's definition says, and sound

@@ -21,9 +21,9 @@ use Rattle.bench_lines.specs.declared.named.Device.TheVariants as device
 use Rattle.bench_lines.specs.declared.named.Heard.{Heard}
 use Rattle.bench_lines.specs.declared.named.Later.{Later}
 use Rattle.bench_lines.specs.Desk.{Sound}
-use Rattle.bench_lines.specs.Lines.{Told, telling, Says, timed_of, configured_of, watched_of, listed_of, itemed_of, doored_of, logged_of, whose_of, recorded_of}
+use Rattle.bench_lines.specs.Lines.{Told, telling, Says, timed_of, configured_of, watched_of, listed_of, doored_of, logged_of, whose_of, recorded_of}
 
--- the bytes that lines are lent: an area for a call, the log's, and the list's
+-- the bytes that lines are lent: an area for a call, the log's, and the list's items
 pub record Lent : Type 0 where
   pub room : List ℕ
   pub area : List ℕ
@@ -40,7 +40,7 @@ pub record Lined : Type 0 where
 abbrev pub leaving : Told → Lent → Lined
 leaving told l = record { told = told; lent = l }
 
--- a call of the timer, the watchdog or a list, which has the room
+-- a call of the timer or the watchdog, which has the room
 abbrev pub in_room : Told → Lent → List ℕ → Lined
 in_room told l room = leaving told (lent room l.area l.items)
 
@@ -75,11 +75,11 @@ named_of b line at command.Wdt l =
     let x = wdt_line b.watchdog b.line line at l.room in
     in_room (watched_of b x) l x.area
 named_of b line at command.Writes l =
-    let x = writes_line b.timer b.items b.line line at l.items l.room in
-    in_room (listed_of b x) l x.area
+    let x = writes_line b.timer b.line line at l.items l.room in
+    leaving (listed_of b x) (lent x.area l.area x.items)
 named_of b line at command.Item l =
-    let x = item_line b.items b.line line at l.items in
-    leaving (itemed_of b x) (lent l.room l.area x.list)
+    let x = item_line b.line line at l.items in
+    leaving (telling b x.bytes) (lent l.room l.area x.list)
 named_of b line at command.Door l = leaving (doored_of b (door_line b.door b.line line at)) l
 named_of b line at command.Log l =
     let x = log_line b.ring b.line line at l.area in

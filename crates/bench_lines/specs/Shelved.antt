@@ -51,7 +51,7 @@ on_board whose.Nobody = false
 -- the bench with so many bytes for the file, and whether that is begun anew
 abbrev pub filed : Bench → ℕ → Bool → Bench
 filed b kept anew =
-    record { timer = b.timer; watchdog = b.watchdog; door = b.door; ring = b.ring; items = b.items; line = b.line; whose = b.whose; kept = kept; anew = anew }
+    record { timer = b.timer; watchdog = b.watchdog; door = b.door; ring = b.ring; line = b.line; whose = b.whose; kept = kept; anew = anew }
 
 -- after a board's line: "with T at every `board new`" the file is begun anew
 abbrev pub filed_of : Bench → Lined → Bench

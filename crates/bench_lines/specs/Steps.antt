@@ -20,7 +20,7 @@ use Rattle.bench_lines.specs.Shelved.{Worked, shelved_of}
 -- the bench at the next line: its number, which goes on from 2^64 - 1 to 0, and nothing for the file
 abbrev pub counted : Bench → Bench
 counted b =
-    record { timer = b.timer; watchdog = b.watchdog; door = b.door; ring = b.ring; items = b.items; line = (b.line + 1) % 2 ^ 64; whose = b.whose; kept = 0; anew = false }
+    record { timer = b.timer; watchdog = b.watchdog; door = b.door; ring = b.ring; line = (b.line + 1) % 2 ^ 64; whose = b.whose; kept = 0; anew = false }
 
 -- bytes said, and nothing asked of the shelf
 abbrev pub saying : Bench → List ℕ → Lent → Asking

@@ -20,7 +20,7 @@ pub enum Whose {
     Nobody,
 }
 
-// What most lines work on: one timer, one watchdog, one door, one log, how many items the list holds, and the number of the last line. Of the file, whose
+// What most lines work on: one timer, one watchdog, one door, one log, and the number of the last line. Of the file, whose
 // records it takes, how many bytes of them the last line has for it, and whether it is begun anew.
 #[derive(Clone, Copy)]
 pub struct Bench {
@@ -28,7 +28,6 @@ pub struct Bench {
     pub watchdog: Option<Watchdog>,
     pub door: Option<Door>,
     pub ring: Ring,
-    pub items: usize,
     pub line: u64,
     pub whose: Whose,
     pub kept: usize,
@@ -59,7 +58,6 @@ impl Bench {
             watchdog: None,
             door: None,
             ring: Ring::new(),
-            items: 0,
             line: 0,
             whose: Whose::Nobody,
             kept: 0,

@@ -2,18 +2,17 @@
 
 ghost use Rattle.std.specs.Prelude.{◌≡◌};
 ghost use Rattle.door_lines.specs.Rules.{door_line};
-ghost use Rattle.list_lines.specs.Items.{item_line};
 ghost use Rattle.list_lines.specs.Lists.{writes_line};
 ghost use Rattle.log_lines.specs.Logged.{log_line};
 ghost use Rattle.timer_lines.specs.Made.{config_line};
 ghost use Rattle.timer_lines.specs.Named.{timer_line};
 ghost use Rattle.wdt_lines.specs.Called.{wdt_line};
 ghost use Rattle.bench_lines.specs.Desk.{Sound};
-ghost use Rattle.bench_lines.specs.Lines.{Says, kept_of, on_script, timed_of, configured_of, watched_of, listed_of, itemed_of, doored_of, logged_of, timer_named, whose_of, recorded_of};
+ghost use Rattle.bench_lines.specs.Lines.{Says, kept_of, on_script, timed_of, configured_of, watched_of, listed_of, doored_of, logged_of, timer_named, whose_of, recorded_of};
 
 use crate::desk::{Bench, Whose};
 use door_lines::rules::door_line;
-use list_lines::made::{Items, item_line};
+use list_lines::made::Items;
 use list_lines::worked::writes_line;
 use log_lines::{Area, log_line};
 use page::Page;
@@ -95,25 +94,15 @@ pub fn listed(
     page: &mut Page,
     line: &[u8],
     at: usize,
-    items: &Items,
+    items: &mut Items,
     room: &mut Room,
 ) -> Bench
     requires { Sound b }
-    ensures { (Says (listed_of b (writes_line b.timer b.items b.line line.now at items.now room.old)) page.old page.new result) × (room.new ≡ (writes_line b.timer b.items b.line line.now at items.now room.old).area) }
+    ensures { (Says (listed_of b (writes_line b.timer b.line line.now at items.old room.old)) page.old page.new result) × (items.new ≡ (writes_line b.timer b.line line.now at items.old room.old).items) × (room.new ≡ (writes_line b.timer b.line line.now at items.old room.old).area) }
 {
-    let left = writes_line(b.timer, b.items, page, b.line, line, at, items, room);
+    let left = writes_line(b.timer, page, b.line, line, at, items, room);
     b.timer = left.timer;
-    b.items = left.items;
     b.kept = kept(b.whose, left.written);
-    b
-}
-
-// A line that adds an item to the list.
-pub fn itemed(mut b: Bench, page: &mut Page, line: &[u8], at: usize, items: &mut Items) -> Bench
-    requires { Sound b }
-    ensures { (Says (itemed_of b (item_line b.items b.line line.now at items.old)) page.old page.new result) × (items.new ≡ (item_line b.items b.line line.now at items.old).list) }
-{
-    b.items = item_line(b.items, page, b.line, line, at, items);
     b
 }
 

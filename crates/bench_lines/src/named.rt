@@ -5,8 +5,8 @@ ghost use Rattle.bench_lines.specs.Desk.{Sound};
 ghost use Rattle.bench_lines.specs.Named.{Leaves, Hears, lent, command_of, later_of, named_of, worded_of};
 
 use crate::desk::Bench;
-use crate::lines::{configured, doored, itemed, listed, logged, recorded, timed, watched};
-use list_lines::made::Items;
+use crate::lines::{configured, doored, listed, logged, recorded, timed, watched};
+use list_lines::made::{Items, item_line};
 use log_lines::Area;
 use page::Page;
 use pin_lines::pin_line;
@@ -109,7 +109,10 @@ fn line_of(
         }
         Command::Wdt => watched(b, page, line, at, room),
         Command::Writes => listed(b, page, line, at, items, room),
-        Command::Item => itemed(b, page, line, at, items),
+        Command::Item => {
+            item_line(items, page, b.line, line, at);
+            b
+        }
         Command::Door => doored(b, page, line, at),
         Command::Log => logged(b, page, line, at, area),
         Command::Record => recorded(b, page, line, at),

@@ -35,7 +35,7 @@ unopened-short nth why =
 
 -- a line's number is no part of what is sound
 pub sound-at : (b : Bench) (line : ℕ) → Sound b → Sound (at_line b line)
-sound-at b line s = record { timer = s.timer; watchdog = s.watchdog; door = s.door; ring = s.ring; items = s.items }
+sound-at b line s = record { timer = s.timer; watchdog = s.watchdog; door = s.door; ring = s.ring }
 
 module _ (was : State) (line old : List ℕ) (d : Desk) (l : Lent) (one two page : List ℕ)
     (x : Leaves was (step_of was line) old d l one two page) (h : roomy_of old ≡ true) (from : ℕ) (f : from ≡ length old) where

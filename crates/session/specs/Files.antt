@@ -18,7 +18,7 @@ asks_of b = b.anew || ltb 0 b.kept
 -- a bench at another line
 abbrev pub at_line : Bench → ℕ → Bench
 at_line b line =
-    record { timer = b.timer; watchdog = b.watchdog; door = b.door; ring = b.ring; items = b.items; line = line; whose = b.whose; kept = b.kept; anew = b.anew }
+    record { timer = b.timer; watchdog = b.watchdog; door = b.door; ring = b.ring; line = line; whose = b.whose; kept = b.kept; anew = b.anew }
 
 -- by the state before the line, the one after it, and the file's answer: "`door.log not written` stands in place of that call's answer", or why it cannot be opened, "and then nothing has changed" but the line's number and the
 -- bytes that the line was lent
