@@ -9,7 +9,7 @@ use Rattle.figures.specs.Figures.{text}
 use Rattle.figures.proofs.Writing.{number_short}
 use Rattle.page.proofs.Lengths.{numbered, codes-length, pair-length}
 use Rattle.counter.specs.Next.{next_of}
-use Rattle.scheduler.specs.Scheduler.{held, cycle_of}
+use Rattle.scheduler.specs.Scheduler.{cycle_of}
 use Rattle.m328p.specs.declared.Id.TheVariants as id
 use Rattle.plans.specs.Plans.{key_of}
 use Rattle.display.proofs.Claims.{short-state}
@@ -61,15 +61,15 @@ answer-short o areas =
 
 held-short : (label : String) (cycle : Option ℕ) → length (held_at (text label) cycle) ≤ len label + 20
 unfolding held_at
-held-short label (some cycle) = numbered label _ cycle (omega arith)
-held-short label none = simp (length-append, codes-length) (omega arith)
+held-short label (Some cycle) = numbered label _ cycle (omega arith)
+held-short label None = simp (length-append, codes-length) (omega arith)
 
 plans-short : (b : Board) → length (plans_of b) ≤ 83
 unfolding plans_of
 plans-short b =
-    let zero = held-short " sched=" (cycle_of (key_of id.Zero) (held b.scheduler)) in
-    let one = held-short "," (cycle_of (key_of id.One) (held b.scheduler)) in
-    let two = held-short "," (cycle_of (key_of id.Two) (held b.scheduler)) in
+    let zero = held-short " sched=" (cycle_of (key_of id.Zero) b.scheduler) in
+    let one = held-short "," (cycle_of (key_of id.One) b.scheduler) in
+    let two = held-short "," (cycle_of (key_of id.Two) b.scheduler) in
     simp (length-append, codes-length, pair-length) (omega arith)
 
 pub board-short : (b : Board) → length (board_of b) ≤ 1877

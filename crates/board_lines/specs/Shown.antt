@@ -4,7 +4,7 @@ use Rattle.std.proofs.Math.Option.{Option, none, some}
 use Rattle.figures.specs.Figures.{text, number}
 use Rattle.page.specs.Page.{pair}
 use Rattle.counter.specs.Next.{next_of}
-use Rattle.scheduler.specs.Scheduler.{held, cycle_of as cycle_in}
+use Rattle.scheduler.specs.Scheduler.{cycle_of as cycle_in}
 use Rattle.scheduler.specs.declared.Scheduler.{Scheduler}
 use Rattle.m328p.specs.declared.Id.{Id}
 use Rattle.m328p.specs.declared.Id.TheVariants as id
@@ -34,12 +34,12 @@ answer_of o areas = said_of o.answer ++ unless_refused o.answer (nexts_of o.boar
 
 -- a label and a cycle, or none
 unfoldable pub held_at : List ℕ → Option ℕ → List ℕ
-held_at label (some cycle) = label ++ number cycle
-held_at label none = label ++ text "none"
+held_at label (Some cycle) = label ++ number cycle
+held_at label None = label ++ text "none"
 
 -- "the cycle that the board's scheduler holds for each id, or none"
 abbrev pub held_of : List ℕ → Scheduler → Id → List ℕ
-held_of label s i = held_at label (cycle_in (key_of i) (held s))
+held_of label s i = held_at label (cycle_in (key_of i) s)
 
 -- "board gtccr=VV sched=N,N,N"
 unfoldable pub plans_of : Board → List ℕ

@@ -3,7 +3,6 @@
 ghost use Rattle.board.specs.Calls.{areas_of};
 ghost use Rattle.board.specs.State.{Valid};
 ghost use Rattle.page.specs.Page.{Puts};
-ghost use Rattle.scheduler.specs.Scheduler.{Valid as Planned};
 ghost use Rattle.board_lines.specs.Shown.{nexts_of, records_of, answer_of, held_of, plans_of, board_of};
 
 use answers::Answer;
@@ -14,7 +13,7 @@ use display::state::state;
 use m328p::Id;
 use page::Page;
 use plans::key;
-use scheduler::{Scheduled, Scheduler};
+use scheduler::Scheduler;
 
 // Puts the next event of each timer, and the flags that each will raise.
 #[tactic(auto, using(page::proofs::Sheets::then), unfolding(crate::specs::Shown::nexts_of, figures::specs::Figures::codes))]
@@ -63,12 +62,11 @@ pub fn answer(page: &mut Page, o: Outcome, zero: &[u8], one: &[u8], two: &[u8])
 // Puts a label and the cycle that the scheduler holds for a timer, `none` where it holds none.
 #[tactic(auto, using(page::proofs::Sheets::then), unfolding(crate::specs::Shown::held_at, figures::specs::Figures::codes))]
 fn held(page: &mut Page, label: &[u8], s: Scheduler, id: Id)
-    requires { Planned s }
     ensures { Puts page.old page.new (held_of label.now s id) }
 {
     match s.is_scheduled(key(id)) {
-        Scheduled::At(cycle) => page.number(label, cycle),
-        Scheduled::Never => {
+        Some(cycle) => page.number(label, cycle),
+        None => {
             page.text(label);
             page.text(b"none")
         }
