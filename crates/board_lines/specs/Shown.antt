@@ -1,6 +1,6 @@
 -- What is shown of the board (docs/SCRIPT.md, "The board"): "What is shown of a timer's call, here of Timer0, Timer1 and Timer2 as the line leaves them".
 use Rattle.std.specs.Prelude.{ℕ, List, [], ◌∷◌, ◌++◌}
-use Rattle.std.proofs.Math.Option.{Option, none, some}
+use Rattle.std.specs.Prelude.{Option, Some, None}
 use Rattle.figures.specs.Figures.{text, number}
 use Rattle.page.specs.Page.{pair}
 use Rattle.counter.specs.Next.{next_of}

@@ -62,7 +62,7 @@ fn told(o: Outcome, page: &mut Page, zero: &[u8], one: &[u8], two: &[u8]) -> Lef
         page.text(b"area changed");
         return Left::quiet(Some(o.board));
     }
-    answer(page, o, zero, one, two);
+    answer(page, &o, zero, one, two);
     Left {
         board: Some(o.board),
         written: o.written,
@@ -114,11 +114,11 @@ pub fn order_line(
         }
         (_, None) => {
             page.text(b"no timer");
-            Left::quiet(b)
+            Left::quiet(None)
         }
         (Asked::State, Some(board)) => {
-            stands(page, board);
-            Left::quiet(b)
+            stands(page, &board);
+            Left::quiet(Some(board))
         }
         (Asked::Call { order, cycle, size }, Some(board)) => called(
             board,

@@ -17,9 +17,9 @@ use scheduler::Scheduler;
 
 // Puts the next event of each timer, and the flags that each will raise.
 #[tactic(auto, using(page::proofs::Sheets::then), unfolding(crate::specs::Shown::nexts_of, figures::specs::Figures::codes))]
-fn nexts(page: &mut Page, b: Board)
-    requires { Valid b }
-    ensures { Puts page.old page.new (nexts_of b) }
+fn nexts(page: &mut Page, b: &Board)
+    requires { Valid b.now }
+    ensures { Puts page.old page.new (nexts_of b.now) }
 {
     let zero = b.zero.next();
     let one = b.one.next();
@@ -46,16 +46,16 @@ fn records(page: &mut Page, written: Written, zero: &[u8], one: &[u8], two: &[u8
 }
 
 // Puts an order's answer.
-pub fn answer(page: &mut Page, o: Outcome, zero: &[u8], one: &[u8], two: &[u8])
-    requires { Valid o.board }
-    ensures { Puts page.old page.new (answer_of o (areas_of zero.now one.now two.now)) }
+pub fn answer(page: &mut Page, o: &Outcome, zero: &[u8], one: &[u8], two: &[u8])
+    requires { Valid o.now.board }
+    ensures { Puts page.old page.new (answer_of o.now (areas_of zero.now one.now two.now)) }
 {
     let answer = o.answer;
     said(page, answer);
     if let Answer::Refused(_) = answer {
         return;
     }
-    nexts(page, o.board);
+    nexts(page, &o.board);
     records(page, o.written, zero, one, two)
 }
 
@@ -75,9 +75,9 @@ fn held(page: &mut Page, label: &[u8], s: Scheduler, id: Id)
 
 // Puts GTCCR, and the cycles that the scheduler holds.
 #[tactic(auto, using(page::proofs::Sheets::then), unfolding(crate::specs::Shown::plans_of, figures::specs::Figures::codes))]
-fn plans(page: &mut Page, b: Board)
-    requires { Valid b }
-    ensures { Puts page.old page.new (plans_of b) }
+fn plans(page: &mut Page, b: &Board)
+    requires { Valid b.now }
+    ensures { Puts page.old page.new (plans_of b.now) }
 {
     let s = b.scheduler;
     page.register(b"board gtccr=", b.gtccr);
@@ -88,9 +88,9 @@ fn plans(page: &mut Page, b: Board)
 
 // Puts the board as it stands, and on a line of its own each timer.
 #[tactic(auto, using(page::proofs::Sheets::then), unfolding(crate::specs::Shown::board_of))]
-pub fn stands(page: &mut Page, b: Board)
-    requires { Valid b }
-    ensures { Puts page.old page.new (board_of b) }
+pub fn stands(page: &mut Page, b: &Board)
+    requires { Valid b.now }
+    ensures { Puts page.old page.new (board_of b.now) }
 {
     plans(page, b);
     page.byte(b'\n');

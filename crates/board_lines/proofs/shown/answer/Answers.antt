@@ -9,9 +9,9 @@ use Rattle.board_lines.proofs.shown.answer.Goals as goal
 pub returns-in-Refused : goal.returns-in-Refused
 returns-in-Refused c =
     let a = c.args in
-    rw (after-refused a.o.answer _ (nexts_of a.o.board ++ records_of a.o.written (areas_of a.zero.now a.one.now a.two.now)) c.in-Refused.is) (then c.said.ensures (put_none _))
+    rw (after-refused a.o.now.answer _ (nexts_of a.o.now.board ++ records_of a.o.now.written (areas_of a.zero.now a.one.now a.two.now)) c.in-Refused.is) (then c.said.ensures (put_none _))
 
 pub returns : goal.returns
 returns c =
     let a = c.args in
-    rw (after-accepted a.o.answer (nexts_of a.o.board ++ records_of a.o.written (areas_of a.zero.now a.one.now a.two.now)) c.in_default.not-Refused) (then c.said.ensures (then c.nexts.ensures c.records.ensures))
+    rw (after-accepted a.o.now.answer (nexts_of a.o.now.board ++ records_of a.o.now.written (areas_of a.zero.now a.one.now a.two.now)) c.in_default.not-Refused) (then c.said.ensures (then c.nexts.ensures c.records.ensures))
