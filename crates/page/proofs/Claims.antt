@@ -5,9 +5,12 @@ use native.Mathlib.Decide.{dec_le}
 use mathlib.Core.Path.{◌≡◌, refl, sym, ap, ◌∙◌}
 use mathlib.Core.List.{List, [], ◌∷◌, ◌++◌, append-nil, append_assoc}
 use borrow.Author.Tests.{lt-ltb, le-ltb}
-use lib.ListN.{length, length-append}
+use mathlib.Core.Bool.{Bool, true, false, cond}
+use lib.Dec.{ltb}
+use lib.ListN.{length, take, length-append}
+use lib.Seq.{take_all, take-take, take-append-le}
 use Rattle.page.specs.Page.{size, put, puts}
-use Rattle.page.specs.Claims.{Fits, RoomSeen, Short}
+use Rattle.page.specs.Claims.{Fits, NothingLost, Bounded, RoomSeen, Short}
 use Rattle.page.proofs.Lengths.{unreadable-short}
 
 -- a byte that has room
@@ -25,6 +28,41 @@ fits page [] h = sym (append-nil page)
 fits page (b ∷ bs) h =
     let n = length-append page (b ∷ []) in
     rw (here page b (omega arith)) (fits (page ++ b ∷ []) bs (omega (arith, n)) ∙ append_assoc page (b ∷ []) bs)
+
+-- one byte put
+put-keeps : (page : List ℕ) (b : ℕ) → take (length page) (put page b) ≡ page
+unfolding put
+put-keeps page b = go (ltb (length page) size)
+  where
+    go : (t : Bool) → take (length page) (cond t (page ++ b ∷ []) page) ≡ page
+    go true = take-append-le (length page) page (b ∷ []) (omega arith) ∙ take_all (length page) page (omega arith)
+    go false = take_all (length page) page (omega arith)
+
+put-longer : (page : List ℕ) (b : ℕ) → length page ≤ length (put page b)
+unfolding put
+put-longer page b = go (ltb (length page) size)
+  where
+    go : (t : Bool) → length page ≤ length (cond t (page ++ b ∷ []) page)
+    go true = let n = length-append page (b ∷ []) in omega (arith, n)
+    go false = omega arith
+
+pub nothing-lost : NothingLost
+nothing-lost page [] = take_all (length page) page (omega arith)
+nothing-lost page (b ∷ bs) =
+    let l = put-longer page b in
+    sym (take-take (length page) (length (put page b)) (puts (put page b) bs) l) ∙ ap (take (length page)) (nothing-lost (put page b) bs) ∙ put-keeps page b
+
+put-bounded : (page : List ℕ) (b : ℕ) → length page ≤ size → length (put page b) ≤ size
+unfolding put
+put-bounded page b h = go (dec_le size (length page))
+  where
+    go : Dec (size ≤ length page) → length (cond (ltb (length page) size) (page ++ b ∷ []) page) ≤ size
+    go (yes q) = rw (le-ltb (length page) size q) h
+    go (no q) = let n = length-append page (b ∷ []) in rw (lt-ltb (length page) size (omega arith)) (omega (arith, n))
+
+pub bounded : Bounded
+bounded page [] h = h
+bounded page (b ∷ bs) h = bounded (put page b) bs (put-bounded page b h)
 
 -- a full page stays full
 stays : (page bytes : List ℕ) → size ≤ length page → puts page bytes ≡ page

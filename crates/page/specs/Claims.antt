@@ -1,11 +1,19 @@
--- What is proved of pages beside the functions: bytes that fit are put behind those that stand there, a page never holds more than its size, a page that is not full says that all bytes had room, and how long an answer may be.
-use Rattle.std.specs.Prelude.{ℕ, ◌+◌, ◌≤◌, ◌<◌, ◌≡◌, List, ◌++◌, length}
+-- What is proved of pages beside the functions: bytes that fit are put behind those that stand there, nothing before them is lost, a page never holds more than its size, a page that is not full says that all bytes had room, and how long an answer may be.
+use Rattle.std.specs.Prelude.{ℕ, ◌+◌, ◌≤◌, ◌<◌, ◌≡◌, List, ◌++◌, length, take}
 use Rattle.words.specs.declared.Unreadable.{Unreadable}
 use Rattle.page.specs.Page.{size, puts, unreadable_of}
 
--- bytes that fit are put behind those that stand there, in their order: nothing is lost
+-- bytes that fit are put behind those that stand there, in their order
 abbrev pub Fits : Type 0
 Fits = (page bytes : List ℕ) → length page + length bytes ≤ size → puts page bytes ≡ page ++ bytes
+
+-- nothing that stood before is lost, whether the bytes fit or not
+abbrev pub NothingLost : Type 0
+NothingLost = (page bytes : List ℕ) → take (length page) (puts page bytes) ≡ page
+
+-- a page never holds more than its size
+abbrev pub Bounded : Type 0
+Bounded = (page bytes : List ℕ) → length page ≤ size → length (puts page bytes) ≤ size
 
 -- a page that has room left says that all bytes had room
 abbrev pub RoomSeen : Type 0

@@ -4,7 +4,8 @@ use native.Mathlib.Omega.{arith}
 use mathlib.Core.Bool.{true}
 use mathlib.Core.List.{List, [], ◌∷◌, ◌++◌}
 use mathlib.Core.Path.{◌≡◌, sym, ap, ◌∙◌}
-use lib.ListN.{length, take, length-append, take-append}
+use lib.ListN.{length, take, length-append}
+use lib.Seq.{take-append-le, take_all}
 use Rattle.figures.specs.Figures.{text}
 use Rattle.words.specs.declared.Unreadable.{Unreadable}
 use Rattle.words.specs.declared.Unreadable.TheVariants as unreadable
@@ -41,7 +42,7 @@ module _ (was : State) (line old : List ℕ) (d : Desk) (l : Lent) (one two page
     (x : Leaves was (step_of was line) old d l one two page) (h : roomy_of old ≡ true) (from : ℕ) (f : from ≡ length old) where
   -- what stood before the answer
   front : take from page ≡ old
-  front = ap (take from) x.shows ∙ ap (λ (n : ℕ). take n (old ++ x.said)) f ∙ take-append old x.said
+  front = ap (take from) x.shows ∙ ap (λ (n : ℕ). take n (old ++ x.said)) f ∙ take-append-le (length old) old x.said (omega arith) ∙ take_all (length old) old (omega arith)
 
   -- other bytes behind it
   over : {new bytes : List ℕ} → Puts (take from page) new bytes → length bytes ≤ 50 → new ≡ old ++ bytes
