@@ -1,5 +1,5 @@
 -- A line with its line feed, and without its comment.
-use Rattle.std.proofs.Common.{◌≡◌, ℕ, List, [], ◌∷◌, length, sym, refl, ap, ◌∙◌, eq-eqb, ne_eqb, Option, Some, None}
+use Rattle.std.proofs.Common.{◌≡◌, ℕ, List, [], ◌∷◌, length, sym, refl, ap, subst, ◌∙◌, eq-eqb, ne_eqb, Option, Some, None}
 use Rattle.words.specs.Words.{skip_of}
 use Rattle.page.specs.Page.{Puts}
 use Rattle.page.proofs.Sheets.{then, put_none}
@@ -20,7 +20,7 @@ hears_none b page room area items s = record { leaves = record { says = record {
 module _ (x : Asking) (old mid room area items : List ℕ) (h : Heard) (l : Hears x old mid room area items h) where
   pub ended_later : (q : Later) → h.later ≡ Some q → Hears (ended_of x) old mid room area items h
   unfolding ended_by
-  ended_later q e = rw (sym l.later ∙ e) l
+  ended_later q e = subst (λ (o : Option Later). Hears (ended_by x o) old mid room area items h) (sym (sym l.later ∙ e)) l
 
   pub ended_now : (new : List ℕ) → h.later ≡ None → Puts mid new (10 ∷ []) → Hears (ended_of x) old new room area items h
   unfolding ended_by

@@ -3,6 +3,8 @@ use Rattle.std.proofs.Common.{◌≡◌, ℕ, ◌-◌, ◌<◌, ◌≤◌, Bool,
 use native.Mathlib.Decide.{dec_le}
 use Rattle.words.specs.Words.{skip_of, find_of}
 use Rattle.words.specs.Numbers.{between}
+use Rattle.words.specs.declared.Unreadable.TheVariants as unreadable
+use Rattle.page.specs.Page.{Puts, unreadable_of}
 use Rattle.page.proofs.Lengths.{either}
 use Rattle.linewise.specs.Lines.{cut_of}
 use Rattle.linewise.specs.Claims.{reading, fed}
@@ -11,7 +13,8 @@ use Rattle.bench_lines.specs.declared.desk.Bench.{Bench}
 use Rattle.bench_lines.specs.declared.named.Command.{Command}
 use Rattle.bench_lines.specs.declared.named.Command.TheVariants as command
 use Rattle.bench_lines.specs.declared.named.Later.{Later}
-use Rattle.bench_lines.specs.Named.{Lent, Asking, later_of, commanded_of, command_of, worded_of}
+use Rattle.bench_lines.specs.Desk.{Sound}
+use Rattle.bench_lines.specs.Named.{Lent, lent, Hears, Asking, later_of, commanded_of, command_of, worded_of}
 use Rattle.bench_lines.specs.Steps.{State, Held, counted, ended_by, ended_of, heard_of, first_of, step_of, plain, so_far}
 use Rattle.bench_lines.proofs.Feeding.{held_whole, held_over, cut-feeds}
 
@@ -68,20 +71,32 @@ first-none : (b : Bench) (line : List ℕ) (l : Lent) → 500 < length line → 
 unfolding first_of
 first-none b line l h = rw (lt-ltb 500 (length line) h) refl
 
+-- a line that is too long, or one that is read up to its comment
+module _ (b c : Bench) (line : List ℕ) (e : c ≡ counted b) where
+  pub step_long : (page new room area items : List ℕ) → ltb 500 (length line) ≡ true → Sound c → Puts page new (unreadable_of c.line unreadable.TooLong ++ 10 ∷ [])
+      → Hears (first_of b line (lent room area items)) page new room area items (record { bench = c; later = None })
+  unfolding first_of
+  step_long page new room area items h s p =
+      rw h (record { leaves = record { says = record { bench = e; puts = subst (λ (x : Bench). Puts page new (unreadable_of x.line unreadable.TooLong ++ 10 ∷ [])) e p; sound = s }; lent = refl }; later = refl })
+
+  pub step_plain : (l : Lent) → ltb 500 (length line) ≡ false → first_of b line l ≡ heard_of c (plain line) l
+  unfolding first_of
+  step_plain l h = rw (h, ← e) refl
+
 -- ---- a line, by what is held of it
 
 module _ (line bytes : List ℕ) (h : Held line bytes) (b : Bench) (l : Lent) where
   -- it is heard as the line itself
+  first_long : 500 < length line → 500 < length bytes → first_of b line l ≡ first_of b bytes l
+  unfolding first_of
+  first_long k m = rw (lt-ltb 500 (length line) k, lt-ltb 500 (length bytes) m) refl
+
   pub first_held : first_of b line l ≡ first_of b bytes l
   first_held = go (dec_le (length line) 500)
     where
-      long : 500 < length line → 500 < length bytes → first_of b line l ≡ first_of b bytes l
-      unfolding first_of
-      long k m = rw (lt-ltb 500 (length line) k, lt-ltb 500 (length bytes) m) refl
-
       go : Dec (length line ≤ 500) → first_of b line l ≡ first_of b bytes l
       go (yes q) = ap (λ (x : List ℕ). first_of b x l) (held_whole line bytes h q)
-      go (no q) = long (omega arith) (held_over line bytes h (omega arith))
+      go (no q) = first_long (omega arith) (held_over line bytes h (omega arith))
 
   -- and what it asks for stands in it
   pub first_asked : IfSome (first_of b line l).later (λ q. take q.end line ≡ take q.end bytes)

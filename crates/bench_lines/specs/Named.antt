@@ -1,8 +1,7 @@
 -- A line by its first word (docs/SCRIPT.md): the timer's, the bench's other lines, and those that ask for the scheduler or the board.
-use Rattle.std.specs.Prelude.{◌≡◌, ℕ, true, false, cond, List, [], length, Option, Some, None, option_map}
-use Rattle.std.specs.Str.{bytes_eq}
+use Rattle.std.specs.Prelude.{◌≡◌, ℕ, true, false, cond, List, [], length, ◌==◌, Option, Some, None, option_map}
 use Rattle.figures.specs.Figures.{text}
-use Rattle.words.specs.Words.{find_of}
+use Rattle.words.specs.Words.{find_of, place_of}
 use Rattle.words.specs.Numbers.{between}
 use Rattle.words.specs.declared.Unreadable.TheVariants as unreadable
 use Rattle.page.specs.Page.{Puts, unreadable_of}
@@ -12,6 +11,7 @@ use Rattle.list_lines.specs.Lists.{writes_line}
 use Rattle.log_lines.specs.Logged.{log_line}
 use Rattle.pin_lines.specs.PinLines.{pin_line}
 use Rattle.timer_lines.specs.Made.{config_line}
+use Rattle.timer_lines.specs.declared.named.Command.{Command as Of-timer}
 use Rattle.timer_lines.specs.Named.{timer_line, named_of as timer-named_of}
 use Rattle.wdt_lines.specs.Called.{wdt_line}
 use Rattle.bench_lines.specs.declared.desk.Bench.{Bench}
@@ -46,20 +46,32 @@ in_room told l room = leaving told (lent room l.area l.items)
 
 -- ---- the command
 
--- the command of a word: the bench's own, those of the shelf, then the timer's
-unfoldable pub command_of : List ℕ → Option Command
-command_of word =
-    cond (bytes_eq word (text "config")) (Some command.Config)
-    (cond (bytes_eq word (text "preset")) (Some command.Preset)
-    (cond (bytes_eq word (text "pin")) (Some command.Pin)
-    (cond (bytes_eq word (text "wdt")) (Some command.Wdt)
-    (cond (bytes_eq word (text "writes")) (Some command.Writes)
-    (cond (bytes_eq word (text "item")) (Some command.Item)
-    (cond (bytes_eq word (text "door")) (Some command.Door)
-    (cond (bytes_eq word (text "log")) (Some command.Log)
-    (cond (bytes_eq word (text "record")) (Some command.Record)
-    (cond (bytes_eq word (text "sched")) (Some (command.Shelf device.Scheduler))
-    (cond (bytes_eq word (text "board")) (Some (command.Shelf device.Board)) (option_map command.Timer (timer-named_of word)))))))))))))
+-- the names beside the timer's, those of the shelf last
+abbrev pub others : List ℕ
+others = text "config preset pin wdt writes item door log record sched board"
+
+-- the command of each, in their order
+unfoldable pub other_of : ℕ → Command
+other_of n =
+    cond (n == 0) command.Config
+    (cond (n == 1) command.Preset
+    (cond (n == 2) command.Pin
+    (cond (n == 3) command.Wdt
+    (cond (n == 4) command.Writes
+    (cond (n == 5) command.Item
+    (cond (n == 6) command.Door
+    (cond (n == 7) command.Log
+    (cond (n == 8) command.Record
+    (cond (n == 9) (command.Shelf device.Scheduler) (command.Shelf device.Board))))))))))
+
+-- the timer's, else one of those
+unfoldable pub or_other : Option Of-timer → Option ℕ → Option Command
+or_other (Some c) other = Some (command.Timer c)
+or_other None other = option_map other_of other
+
+-- the command of a word
+abbrev pub command_of : List ℕ → Option Command
+command_of word = or_other (timer-named_of word) (place_of others word)
 
 -- ---- what it leaves
 

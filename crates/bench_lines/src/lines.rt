@@ -74,13 +74,7 @@ pub fn configured(mut b: Bench, page: &mut Page, line: &[u8], at: usize, preset:
 }
 
 // A watchdog's line.
-pub fn watched(
-    mut b: Bench,
-    page: &mut Page,
-    line: &[u8],
-    at: usize,
-    room: &mut Room,
-) -> Bench
+pub fn watched(mut b: Bench, page: &mut Page, line: &[u8], at: usize, room: &mut Room) -> Bench
     requires { Sound b }
     ensures { (Says (watched_of b (wdt_line b.watchdog b.line line.now at room.old)) page.old page.new result) × (room.new ≡ (wdt_line b.watchdog b.line line.now at room.old).area) }
 {

@@ -2,7 +2,7 @@
 
 ghost use Rattle.std.specs.Prelude.{◌≡◌, ◌≤◌, length};
 ghost use Rattle.bench_lines.specs.Desk.{Sound};
-ghost use Rattle.bench_lines.specs.Named.{Leaves, Hears, lent, command_of, later_of, named_of, worded_of};
+ghost use Rattle.bench_lines.specs.Named.{Leaves, Hears, lent, other_of, command_of, later_of, named_of, worded_of};
 
 use crate::desk::Bench;
 use crate::lines::{configured, doored, listed, logged, recorded, timed, watched};
@@ -11,7 +11,7 @@ use log_lines::Area;
 use page::Page;
 use pin_lines::pin_line;
 use room::Room;
-use words::{Unreadable, find};
+use words::{Unreadable, find, place};
 
 // What stands on the shelf.
 #[derive(Clone, Copy, PartialEq, Eq)]
@@ -52,25 +52,39 @@ pub struct Heard {
 }
 
 impl Command {
+    // The command of a place among the names beside the timer's.
+    #[tactic(auto, unfolding(crate::specs::Named::other_of))]
+    fn other(place: usize) -> Command
+        ensures { result ≡ other_of place }
+    {
+        match place {
+            0 => Command::Config,
+            1 => Command::Preset,
+            2 => Command::Pin,
+            3 => Command::Wdt,
+            4 => Command::Writes,
+            5 => Command::Item,
+            6 => Command::Door,
+            7 => Command::Log,
+            8 => Command::Record,
+            9 => Command::Shelf(Device::Scheduler),
+            _ => Command::Shelf(Device::Board),
+        }
+    }
+
     // The command of a line's first word.
-    #[tactic(auto, unfolding(crate::specs::Named::command_of, figures::specs::Figures::codes))]
+    #[tactic(auto, unfolding(crate::specs::Named::or_other, figures::specs::Figures::codes))]
     fn of(word: &[u8]) -> Option<Command>
         ensures { result ≡ command_of word.now }
     {
-        match word {
-            b"config" => Some(Command::Config),
-            b"preset" => Some(Command::Preset),
-            b"pin" => Some(Command::Pin),
-            b"wdt" => Some(Command::Wdt),
-            b"writes" => Some(Command::Writes),
-            b"item" => Some(Command::Item),
-            b"door" => Some(Command::Door),
-            b"log" => Some(Command::Log),
-            b"record" => Some(Command::Record),
-            b"sched" => Some(Command::Shelf(Device::Scheduler)),
-            b"board" => Some(Command::Shelf(Device::Board)),
-            _ => timer_lines::named::named(word).map(Command::Timer),
+        if let Some(command) = timer_lines::named::named(word) {
+            return Some(Command::Timer(command));
         }
+        let place = place(
+            b"config preset pin wdt writes item door log record sched board",
+            word,
+        )?;
+        Some(Command::other(place))
     }
 
     // What the command asks of the shelf, of a line from the place after its name to its end.

@@ -7,7 +7,7 @@ ghost use Rattle.board_lines.specs.Asked.{asked_of};
 ghost use Rattle.bench_lines.specs.Desk.{Sound, Stable};
 ghost use Rattle.bench_lines.specs.Shelved.{Works, board_kept, on_board, scheduled_of, ordered_of, answered_of, shelved_of};
 
-use crate::desk::{Desk, Whose};
+use crate::desk::{Desk, Shelf, Whose};
 use crate::named::{Device, Later};
 use board::outcome::Written;
 use board_lines::asked::Asked;
@@ -17,12 +17,16 @@ use room::Room;
 use sched_lines::sched_line;
 
 // A scheduler's line.
-fn scheduled(mut d: Desk, page: &mut Page, line: &[u8], at: usize) -> Desk
+fn scheduled(d: Desk, page: &mut Page, line: &[u8], at: usize) -> Desk
     requires { (Sound d.bench) × Stable d.shelf }
     ensures { (areas : Areas) → Works (scheduled_of d.bench d.shelf areas (sched_of d.shelf.scheduler d.bench.line line.now at)) page.old page.new areas.zero areas.one areas.two result }
 {
-    d.shelf.scheduler = sched_line(d.shelf.scheduler, page, d.bench.line, line, at);
-    d
+    let Shelf { scheduler, board } = d.shelf;
+    let scheduler = sched_line(scheduler, page, d.bench.line, line, at);
+    Desk {
+        bench: d.bench,
+        shelf: Shelf { scheduler, board },
+    }
 }
 
 // How many bytes of the board's records the file takes: of one timer.
@@ -55,7 +59,7 @@ fn on_board(whose: Whose) -> bool
 
 // A board's line. A fresh board begins the file anew where the records are one of its timers'.
 fn ordered(
-    mut d: Desk,
+    d: Desk,
     page: &mut Page,
     line: &[u8],
     at: usize,
@@ -66,16 +70,27 @@ fn ordered(
     requires { (Sound d.bench) × Stable d.shelf }
     ensures { Works (ordered_of d.bench d.shelf (areas_of room.old one.old two.old) (asked_of line.now at)) page.old page.new room.new one.new two.new result }
 {
+    let Desk { bench, shelf } = d;
     match Asked::of(line, at) {
-        Err(why) => page.unreadable(d.bench.line, why),
+        Err(why) => {
+            page.unreadable(bench.line, why);
+            Desk { bench, shelf }
+        }
         Ok(asked) => {
-            let left = order_line(d.shelf.board, asked, page, room, one, two);
-            d.shelf.board = left.board;
-            d.bench.kept = kept(d.bench.whose, left.written);
-            d.bench.anew = left.fresh & on_board(d.bench.whose);
+            let Shelf { scheduler, board } = shelf;
+            let left = order_line(board, asked, page, room, one, two);
+            let mut bench = bench;
+            bench.kept = kept(bench.whose, left.written);
+            bench.anew = left.fresh & on_board(bench.whose);
+            Desk {
+                bench,
+                shelf: Shelf {
+                    scheduler,
+                    board: left.board,
+                },
+            }
         }
     }
-    d
 }
 
 // Answers a line on the shelf.

@@ -38,10 +38,13 @@ fn counted(mut b: Bench) -> Bench
 fn ended(h: Heard, page: &mut Page) -> Heard
     ensures { (x : Asking) (old room area items : List ℕ) → Hears x old page.old room area items h → Hears (ended_of x) old page.new room area items result }
 {
-    if h.later.is_none() {
-        page.byte(b'\n');
+    match h.later {
+        Some(later) => h,
+        None => {
+            page.byte(b'\n');
+            h
+        }
     }
-    h
 }
 
 // Answers a line without its comment; nothing where it has no words.
@@ -108,19 +111,19 @@ pub fn turn(
     ensures { (Sound result.bench) × IfSome result.later (λ q. q.end ≤ length line.new) × (start < result.next) × (result.next ≤ length input.now) × ((bytes : List ℕ) → Held line.old bytes → Turns b (lent room.old area.old items.old) bytes input.now start page.old page.new room.new area.new items.new line.new result) }
 {
     let reached = line.cut(input, start);
-    if !reached.ended {
+    if reached.ended {
+        let heard = step(b, page, line, room, area, items);
         return Turned {
-            bench: b,
+            bench: heard.bench,
             next: reached.at,
-            ended: false,
-            later: None,
+            ended: true,
+            later: heard.later,
         };
     }
-    let heard = step(b, page, line, room, area, items);
     Turned {
-        bench: heard.bench,
+        bench: b,
         next: reached.at,
-        ended: true,
-        later: heard.later,
+        ended: false,
+        later: None,
     }
 }
