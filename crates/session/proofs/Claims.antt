@@ -1,4 +1,5 @@
 -- What is proved of a script in a session beside the functions.
+use Rattle.std.specs.Prelude.{Ok, Err, Result, ⊤}
 use Prim.Native.Nat.{ℕ, ◌+◌, ◌≤◌}
 use native.Mathlib.Omega.{arith}
 use mathlib.Core.Bool.{Bool, true, false, cond}
@@ -14,6 +15,7 @@ use Rattle.bench_lines.specs.Steps.{State, step_of}
 use Rattle.bench_lines.specs.Claims.{longest}
 use Rattle.bench_lines.proofs.Claims.{longest-holds}
 use Rattle.words.specs.declared.Unreadable.TheVariants as unreadable
+use Rattle.session.specs.declared.settles.Fault.{Fault}
 use Rattle.session.specs.declared.settles.Fault.TheVariants as fault
 use Rattle.session.specs.Files.{asks_of, settled_of, Filed, filed, file_of}
 use Rattle.session.specs.Claims.{TakesLine, TakesAll, PieceAfterPiece, FiledLongest}
@@ -53,7 +55,7 @@ piece-after-piece s bytes first second b b' shelf shelf' l l' one two line one' 
   answers = y.answers;
   rest = y.rest;
   feeds = λ more.
-      ap (λ (q : List ℕ). fed file_of (reading (filed s q) bytes) (first ++ second)) (append_assoc x.whys y.whys more)
+      ap (λ (q : List (Result ⊤ Fault)). fed file_of (reading (filed s q) bytes) (first ++ second)) (append_assoc x.whys y.whys more)
       ∙ foldl-append (feed file_of) (reading (filed s (x.whys ++ (y.whys ++ more))) bytes) first second
       ∙ ap (λ (q : Read Filed). fed file_of q second) (x.feeds (y.whys ++ more))
       ∙ y.feeds more;

@@ -1,7 +1,10 @@
 -- A piece read line by line is the script fed on, line by line.
+use Rattle.std.specs.Prelude.{Result, Ok, Err, Option, Some, None, ⊤}
 use Prim.Native.Nat.{ℕ, ◌+◌, ◌-◌, ◌≤◌, ◌<◌}
 use native.Mathlib.Omega.{arith}
-use mathlib.Core.Bool.{Bool, true, false, cond}
+use mathlib.Core.Bool.{Bool, true, false, cond, ◌&&◌, false≢true}
+use borrow.Author.Tests.{ltb-true}
+use lib.Dec.{ltb}
 use mathlib.Core.List.{List, [], ◌∷◌, ◌++◌, foldl-append, append-nil, append_assoc}
 use mathlib.Core.Path.{◌≡◌, refl, sym, ap, subst, ◌∙◌}
 use lib.ListN.{length, take, drop}
@@ -9,6 +12,7 @@ use lib.Seq.{take-add, drop-drop}
 use Rattle.words.specs.Numbers.{between}
 use Rattle.linewise.specs.Claims.{Read, reading, feed, fed}
 use Rattle.board.specs.Calls.{areas_of}
+use Rattle.bench_lines.specs.declared.desk.Bench.{Bench}
 use Rattle.bench_lines.specs.declared.desk.Desk.{Desk}
 use Rattle.bench_lines.specs.declared.named.Later.{Later}
 use Rattle.bench_lines.specs.declared.turns.Turned.{Turned}
@@ -22,6 +26,17 @@ use Rattle.session.specs.declared.settles.Fault.{Fault}
 use Rattle.session.specs.Files.{asks_of, filed_step, Filed, filed, answer_of, file_of}
 use Rattle.session.specs.Runs.{roomy_of, Rests, Leaves, Reads, Asks}
 use Rattle.session.proofs.Showing.{step-leaves}
+
+-- ---- the loop's test
+
+-- there is more of the piece, and the page has room
+pub goes_on : (i n : ℕ) (page : List ℕ) (t : Bool) → t ≡ roomy_of page → ltb i n && t ≡ true → (i < n) × (roomy_of page ≡ true)
+goes_on i n page t e h = go (ltb i n) refl t refl h
+  where
+    go : (p : Bool) → ltb i n ≡ p → (q : Bool) → t ≡ q → p && q ≡ true → (i < n) × (roomy_of page ≡ true)
+    go true f true k h = (ltb-true i n f, sym e ∙ k)
+    go true f false k h = absurd (false≢true h)
+    go false f q k h = absurd (false≢true h)
 
 -- ---- parts of a piece
 

@@ -1,4 +1,5 @@
 -- Other bytes in an answer's place.
+use Rattle.std.specs.Prelude.{Err}
 use Prim.Native.Nat.{ℕ, ◌≤◌}
 use native.Mathlib.Omega.{arith}
 use mathlib.Core.Bool.{true}
@@ -46,7 +47,7 @@ module _ (was : State) (line old : List ℕ) (d : Desk) (l : Lent) (one two page
 
   -- other bytes behind it
   over : {new bytes : List ℕ} → Puts (take from page) new bytes → length bytes ≤ 50 → new ≡ old ++ bytes
-  over {new} {bytes} p k = put_shows (rw front p) h (omega arith)
+  over {new} {bytes} p k = put_shows (rw front at p) h (omega arith)
 
   -- the file did not take the records
   pub settled-unwritten : (new : List ℕ) → Puts (take from page) new (text "door.log not written\n") → Leaves was (filed_step was line (Err fault.NotWritten)) old d l one two new

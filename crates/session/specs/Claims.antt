@@ -1,5 +1,5 @@
 -- What is proved of a script in a session beside the functions.
-use Rattle.std.specs.Prelude.{ℕ, ◌+◌, ◌≤◌, List, [], ◌++◌, ◌≡◌, length, Result, Ok}
+use Rattle.std.specs.Prelude.{ℕ, ◌+◌, ◌≤◌, List, [], ◌++◌, ◌≡◌, length, Result, Ok, ⊤}
 use Rattle.linewise.specs.Claims.{reading, fed}
 use Rattle.bench_lines.specs.declared.desk.Bench.{Bench}
 use Rattle.bench_lines.specs.declared.desk.Shelf.{Shelf}

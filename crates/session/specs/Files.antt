@@ -1,5 +1,5 @@
 -- A script and the file that records go to (docs/SCRIPT.md): what a line leaves once the file has answered: it took all, it "does not take a call's records", or it "cannot be opened".
-use Rattle.std.specs.Prelude.{ℕ, Bool, cond, ◌||◌, List, [], ◌∷◌, ◌++◌, ltb, Result, Ok, Err}
+use Rattle.std.specs.Prelude.{ℕ, Bool, cond, ◌||◌, List, [], ◌∷◌, ◌++◌, ltb, Result, Ok, Err, ⊤}
 use Rattle.figures.specs.Figures.{text}
 use Rattle.page.specs.Page.{unreadable_of}
 use Rattle.words.specs.declared.Unreadable.TheVariants as unreadable

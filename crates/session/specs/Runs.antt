@@ -1,5 +1,5 @@
 -- Lines one after the other: a script fed on by a piece, until the page has no room for the longest answer, or a line asks something of the file.
-use Rattle.std.specs.Prelude.{ℕ, ◌+◌, Bool, true, List, [], ◌∷◌, ◌++◌, ◌≡◌, leb, length, take, Result, Option, Some, None}
+use Rattle.std.specs.Prelude.{ℕ, ◌+◌, Bool, true, List, [], ◌∷◌, ◌++◌, ◌≡◌, leb, length, take, Result, Option, Some, None, ⊤}
 use Rattle.words.specs.Numbers.{between}
 use Rattle.page.specs.Page.{size}
 use Rattle.board.specs.Calls.{areas_of}
@@ -44,7 +44,7 @@ pub record Reads (s : State) (bytes piece old : List ℕ) (d : Desk) (l : Lent) 
   pub rest : List ℕ
   pub feeds : (whys : List (Result ⊤ Fault)) → fed file_of (reading (filed s whys) bytes) piece ≡ reading (filed next whys) rest
   pub held : Held line rest
-  pub leaves : Leaves s next old r l one two new
+  pub leaves : Leaves s next old d l one two new
 
 -- it was read, and its last line is the one that asks: the state and the page before that line, and what the line leaves; the script is what the file's answer makes of them
 pub record Asks (s : State) (bytes piece old : List ℕ) (a : Asked) (d : Desk) (l : Lent) (one two line new : List ℕ) : Type 0 where
@@ -56,16 +56,16 @@ pub record Asks (s : State) (bytes piece old : List ℕ) (a : Asked) (d : Desk) 
   pub from : a.from ≡ length page
   pub roomy : roomy_of page ≡ true
   pub before : Leaves s was old a.before was.lent was.one was.two page
-  pub after : Leaves was (step_of was text) page r l one two new
+  pub after : Leaves was (step_of was text) page d l one two new
 
 -- one or the other
-abbrev pub Went_by : Option Asked → State → List ℕ → List ℕ → List ℕ → Desk → Lent → List ℕ → List ℕ → List ℕ → List ℕ → Type 0
-Went_by None s bytes piece old r l one two line new = Reads s bytes piece old r l one two line new
-Went_by (Some a) s bytes piece old r l one two line new = Asks s bytes piece old a r l one two line new
+abbrev pub WentBy : Option Asked → State → List ℕ → List ℕ → List ℕ → Desk → Lent → List ℕ → List ℕ → List ℕ → List ℕ → Type 0
+WentBy None s bytes piece old r l one two line new = Reads s bytes piece old r l one two line new
+WentBy (Some a) s bytes piece old r l one two line new = Asks s bytes piece old a r l one two line new
 
 -- from a place of a piece on
 abbrev pub Goes : State → List ℕ → List ℕ → ℕ → List ℕ → Went → Lent → List ℕ → List ℕ → List ℕ → List ℕ → Type 0
-Goes s bytes input start old w l one two line new = Went_by w.asked s bytes (between input start w.next) old w.desk l one two line new
+Goes s bytes input start old w l one two line new = WentBy w.asked s bytes (between input start w.next) old w.desk l one two line new
 
 -- ---- piece after piece
 

@@ -1,6 +1,6 @@
 // What a line leaves once the file has answered.
 
-ghost use Rattle.std.specs.Prelude.{ℕ, true, List, ◌≡◌, length};
+ghost use Rattle.std.specs.Prelude.{ℕ, true, List, ◌≡◌, length, Err};
 ghost use Rattle.bench_lines.specs.Desk.{Sound, Stable};
 ghost use Rattle.bench_lines.specs.Named.{Lent};
 ghost use Rattle.bench_lines.specs.Steps.{State, step_of};
@@ -19,26 +19,36 @@ pub enum Fault {
     NotWritten,
 }
 
-// What is left of a line that asked something of the file, by what that answered. Where its records were not taken that stands in its answer's place. Where the
-// file was not opened nothing but the line's number has changed.
+// What is left of a line that asked something of the file and did not get it. Where its records were not taken that stands in its answer's place. Where the file was
+// not opened nothing but the line's number has changed.
+fn failed(d: Desk, asked: Asked, fault: Fault, page: &mut Page) -> Desk
+    requires { (Sound d.bench) × (Stable d.shelf) × (Sound asked.before.bench) × (Stable asked.before.shelf) }
+    ensures { (Sound result.bench) × (Stable result.shelf) × ((was : State) (line old : List ℕ) (l : Lent) (one two : List ℕ) → was.bench ≡ asked.before.bench → was.shelf ≡ asked.before.shelf → asked.from ≡ length old → roomy_of old ≡ true → Leaves was (step_of was line) old d l one two page.old → Leaves was (filed_step was line (Err fault)) old result l one two page.new) }
+{
+    page.truncate(asked.from);
+    match fault {
+        Fault::NotWritten => {
+            page.text(b"door.log not written\n");
+            d
+        }
+        Fault::NotOpened => {
+            let mut desk = asked.before;
+            desk.bench.line = d.bench.line;
+            page.unreadable(desk.bench.line, Unreadable::NotOpened);
+            page.byte(b'\n');
+            desk
+        }
+    }
+}
+
+// What is left of a line that asked something of the file, by what that answered.
+#[tactic(auto, unfolding(crate::specs::Files::settled_of))]
 pub fn settled(d: Desk, asked: Asked, answer: Result<(), Fault>, page: &mut Page) -> Desk
     requires { (Sound d.bench) × (Stable d.shelf) × (Sound asked.before.bench) × (Stable asked.before.shelf) }
     ensures { (Sound result.bench) × (Stable result.shelf) × ((was : State) (line old : List ℕ) (l : Lent) (one two : List ℕ) → was.bench ≡ asked.before.bench → was.shelf ≡ asked.before.shelf → asked.from ≡ length old → roomy_of old ≡ true → Leaves was (step_of was line) old d l one two page.old → Leaves was (filed_step was line answer) old result l one two page.new) }
 {
     match answer {
         Ok(()) => d,
-        Err(Fault::NotWritten) => {
-            page.truncate(asked.from);
-            page.text(b"door.log not written\n");
-            d
-        }
-        Err(Fault::NotOpened) => {
-            let mut desk = asked.before;
-            desk.bench.line = d.bench.line;
-            page.truncate(asked.from);
-            page.unreadable(desk.bench.line, Unreadable::NotOpened);
-            page.byte(b'\n');
-            desk
-        }
+        Err(fault) => failed(d, asked, fault, page),
     }
 }
