@@ -119,9 +119,6 @@ pub number_short : (n : ℕ) → length (number n) ≤ 20
 unfolding number
 number_short n = digits-short 20 n
 
-pub length-around : (x y z : List ℕ) → length (x ++ y ++ z) ≡ length x + length y + length z
-length-around x y z = simp length-append (omega arith)
-
 -- ---- a text that is written from its start on
 
 -- what is written, so that with the rest it is the whole
