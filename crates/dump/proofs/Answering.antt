@@ -1,6 +1,5 @@
 -- The answers of the calls from what was written.
 use Prim.Native.Nat.{ℕ, ◌≤◌}
-use native.Mathlib.Omega.{arith}
 use mathlib.Core.Path.{◌≡◌, refl, ap}
 use mathlib.Core.Bool.{Bool, true, false, cond}
 use mathlib.Core.List.{List, ◌++◌}
@@ -27,32 +26,12 @@ use Rattle.dump.proofs.Claims.{written-log, header_is}
 
 -- ---- an answer in numbers
 
-numbers : (f : Fault) → 13 ≤ number_of_fault f
-numbers fault.Malformed = omega arith
-numbers fault.OutOfOrder = omega arith
-numbers fault.TooLarge = omega arith
-
-same-fault : (f g : Fault) → number_of_fault f ≡ number_of_fault g → f ≡ g
-same-fault fault.Malformed fault.Malformed e = refl
-same-fault fault.OutOfOrder fault.OutOfOrder e = refl
-same-fault fault.TooLarge fault.TooLarge e = refl
-same-fault fault.Malformed fault.OutOfOrder e = absurd (omega arith)
-same-fault fault.Malformed fault.TooLarge e = absurd (omega arith)
-same-fault fault.OutOfOrder fault.Malformed e = absurd (omega arith)
-same-fault fault.OutOfOrder fault.TooLarge e = absurd (omega arith)
-same-fault fault.TooLarge fault.Malformed e = absurd (omega arith)
-same-fault fault.TooLarge fault.OutOfOrder e = absurd (omega arith)
-
 pub determined : Determined
-determined (Ok m) (Ok n) e s w = ap Ok w
-determined (Ok m) (Err (error.Refused f)) e s w = absurd (omega (arith, numbers f))
-determined (Ok m) (Err error.Short) e s w = cc
-determined (Err (error.Refused f)) (Ok n) e s w = absurd (omega (arith, numbers f))
-determined (Err (error.Refused f)) (Err (error.Refused g)) e s w = let same = same-fault f g e in cc
-determined (Err (error.Refused f)) (Err error.Short) e s w = cc
-determined (Err error.Short) (Ok n) e s w = cc
-determined (Err error.Short) (Err (error.Refused f)) e s w = cc
-determined (Err error.Short) (Err error.Short) e s w = refl
+determined (Ok n) = refl
+determined (Err (error.Refused fault.Malformed)) = refl
+determined (Err (error.Refused fault.OutOfOrder)) = refl
+determined (Err (error.Refused fault.TooLarge)) = refl
+determined (Err error.Short) = refl
 
 pub numbered : Numbered
 unfolding dump_outcome

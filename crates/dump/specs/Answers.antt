@@ -1,7 +1,8 @@
 -- What the calls of the dump answer, in 02's terms (02, 2.3 and 2.10), and the area after the call.
-use Rattle.std.specs.Prelude.{ℕ, ◌+◌, ◌-◌, ◌/◌, ◌≡◌, Bool, true, false, cond, ◌||◌, List, ◌++◌, ltb, length, drop, Result, Ok, Err}
+use Rattle.std.specs.Prelude.{ℕ, ◌+◌, ◌-◌, ◌/◌, ◌≡◌, Bool, true, false, cond, ◌||◌, List, ◌++◌, eqb, ltb, length, drop, Result, Ok, Err}
 use Rattle.std.specs.Option.{option_map_or}
 use Rattle.verdict.specs.declared.judge.Fault.{Fault}
+use Rattle.verdict.specs.declared.judge.Fault.TheVariants as fault
 use Rattle.verdict.specs.declared.Check.{Check}
 use Rattle.verdict.specs.Fault.{number_of as number_of_fault}
 use Rattle.verdict.specs.Refusal.{refusal_of}
@@ -31,9 +32,17 @@ abbrev pub written_of : Result ℕ DumpError → ℕ
 written_of (Ok n) = n
 written_of (Err e) = 0
 
+-- the fault that a refusal's number says
+abbrev pub fault_of : ℕ → Fault
+fault_of n = cond (eqb n 13) fault.Malformed (cond (eqb n 14) fault.OutOfOrder fault.TooLarge)
+
+-- the answer that the numbers say
+abbrev pub answer_of : ℕ → Bool → ℕ → Result ℕ DumpError
+answer_of number short written = cond short (Err error.Short) (cond (eqb number 0) (Ok written) (Err (error.Refused (fault_of number))))
+
 -- Determined: the numbers determine the answer, its case too
 abbrev pub Determined : Type 0
-Determined = (a b : Result ℕ DumpError) → number_of a ≡ number_of b → short_of a ≡ short_of b → written_of a ≡ written_of b → a ≡ b
+Determined = (a : Result ℕ DumpError) → answer_of (number_of a) (short_of a) (written_of a) ≡ a
 
 -- ---- the outcome of each call
 

@@ -8,7 +8,7 @@ use words::{Unreadable, decimal, exactly, find, hexadecimal, low8, place, skip};
 
 // The commands: the calls, then `new` and `state`.
 #[derive(Clone, Copy, PartialEq, Eq)]
-pub enum Command {
+enum Command {
     Advance,
     Write,
     Next,
