@@ -1,5 +1,5 @@
 -- A line with its line feed, and without its comment.
-use Rattle.std.proofs.Common.{◌≡◌, ℕ, List, [], ◌∷◌, length, sym, refl, ap, subst, ◌∙◌, eq-eqb, ne_eqb, Option, Some, None}
+use Rattle.std.proofs.Common.{◌≡◌, ℕ, List, [], ◌∷◌, length, sym, refl, subst, ◌∙◌, eq-eqb, ne_eqb, Option, Some, None}
 use Rattle.words.specs.Words.{skip_of}
 use Rattle.page.specs.Page.{Puts}
 use Rattle.page.proofs.Sheets.{then, put_none}
@@ -7,8 +7,7 @@ use Rattle.bench_lines.specs.declared.desk.Bench.{Bench}
 use Rattle.bench_lines.specs.declared.named.Heard.{Heard}
 use Rattle.bench_lines.specs.declared.named.Later.{Later}
 use Rattle.bench_lines.specs.Desk.{Sound}
-use Rattle.bench_lines.specs.Lines.{telling}
-use Rattle.bench_lines.specs.Named.{Lent, lent, leaving, Asking, Hears, worded_of}
+use Rattle.bench_lines.specs.Named.{Lent, lent, Asking, Hears, worded_of}
 use Rattle.bench_lines.specs.Steps.{saying, ended_by, ended_of, heard_of}
 
 -- nothing said, and nothing asked

@@ -4,3 +4,4 @@ pub mod Feeding
 pub mod Stepping
 pub mod Coding
 pub mod Claims
+pub mod Readings

@@ -1,5 +1,5 @@
 -- A line of any length, and what it asks of the shelf.
-use Rattle.std.proofs.Common.{◌≡◌, ℕ, ◌-◌, ◌<◌, ◌≤◌, Bool, true, false, cond, eqb, ltb, List, [], ◌∷◌, ◌++◌, length, take, sym, refl, ap, ◌∙◌, subst, arith, length-take, le-ltb, lt-ltb, Option, Some, None, IfSome}
+use Rattle.std.proofs.Common.{◌≡◌, ℕ, ◌<◌, ◌≤◌, Bool, true, false, cond, eqb, ltb, List, [], ◌∷◌, ◌++◌, length, take, sym, refl, ap, ◌∙◌, subst, arith, length-take, lt-ltb, Option, Some, None, IfSome}
 use native.Mathlib.Decide.{dec_le}
 use Rattle.words.specs.Words.{skip_of, find_of}
 use Rattle.words.specs.Numbers.{between}
@@ -15,7 +15,7 @@ use Rattle.bench_lines.specs.declared.named.Command.TheVariants as command
 use Rattle.bench_lines.specs.declared.named.Later.{Later}
 use Rattle.bench_lines.specs.Desk.{Sound}
 use Rattle.bench_lines.specs.Named.{Lent, lent, Hears, Asking, later_of, commanded_of, command_of, worded_of}
-use Rattle.bench_lines.specs.Steps.{State, Held, counted, ended_by, ended_of, heard_of, first_of, step_of, plain, so_far}
+use Rattle.bench_lines.specs.Steps.{State, Held, counted, ended_by, heard_of, first_of, step_of, plain, so_far}
 use Rattle.bench_lines.proofs.Feeding.{held_whole, held_over, cut-feeds}
 
 -- ---- what a line asks of the shelf lies in it

@@ -1,5 +1,5 @@
 -- What is proved of a script's lines beside the functions.
-use Rattle.std.specs.Prelude.{◌≡◌, ℕ, ◌+◌, ◌<◌, ◌≤◌, true, List, ◌++◌, length, take, Some, None}
+use Rattle.std.specs.Prelude.{◌≡◌, ℕ, ◌+◌, ◌≤◌, true, List, ◌++◌, length, take, Some, None}
 use Rattle.page.specs.Page.{size, Puts}
 use Rattle.board.specs.Calls.{areas_of}
 use Rattle.bench_lines.specs.declared.desk.Bench.{Bench}

@@ -4,7 +4,7 @@ use Rattle.figures.specs.Figures.{text}
 use Rattle.words.specs.Words.{find_of, place_of}
 use Rattle.words.specs.Numbers.{between}
 use Rattle.words.specs.declared.Unreadable.TheVariants as unreadable
-use Rattle.page.specs.Page.{Puts, unreadable_of}
+use Rattle.page.specs.Page.{unreadable_of}
 use Rattle.door_lines.specs.Rules.{door_line}
 use Rattle.list_lines.specs.Items.{item_line}
 use Rattle.list_lines.specs.Lists.{writes_line}
@@ -20,7 +20,6 @@ use Rattle.bench_lines.specs.declared.named.Command.TheVariants as command
 use Rattle.bench_lines.specs.declared.named.Device.TheVariants as device
 use Rattle.bench_lines.specs.declared.named.Heard.{Heard}
 use Rattle.bench_lines.specs.declared.named.Later.{Later}
-use Rattle.bench_lines.specs.Desk.{Sound}
 use Rattle.bench_lines.specs.Lines.{Told, telling, Says, timed_of, configured_of, watched_of, listed_of, doored_of, logged_of, whose_of, recorded_of}
 
 -- the bytes that lines are lent: an area for a call, the log's, and the list's items

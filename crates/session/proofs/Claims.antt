@@ -1,18 +1,17 @@
 -- What is proved of a script in a session beside the functions.
 use Rattle.std.specs.Prelude.{Ok, Err, Result, ⊤}
-use Prim.Native.Nat.{ℕ, ◌+◌, ◌≤◌}
+use Prim.Native.Nat.{ℕ}
 use native.Mathlib.Omega.{arith}
 use mathlib.Core.Bool.{Bool, true, false, cond}
 use mathlib.Core.List.{List, [], ◌∷◌, ◌++◌, append_assoc, foldl-append}
 use mathlib.Core.Path.{◌≡◌, refl, ap, ◌∙◌}
 use lib.Dec.{eqb}
-use lib.ListN.{length, length-append}
+use lib.ListN.{length-append}
 use Rattle.figures.specs.Figures.{text}
 use Rattle.page.specs.Page.{unreadable_of}
 use Rattle.page.proofs.Lengths.{either}
 use Rattle.linewise.specs.Claims.{Read, reading, feed, fed}
 use Rattle.bench_lines.specs.Steps.{State, step_of}
-use Rattle.bench_lines.specs.Claims.{longest}
 use Rattle.bench_lines.proofs.Claims.{longest-holds}
 use Rattle.words.specs.declared.Unreadable.TheVariants as unreadable
 use Rattle.session.specs.declared.settles.Fault.{Fault}

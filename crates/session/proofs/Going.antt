@@ -1,5 +1,5 @@
 -- A piece read line by line is the script fed on, line by line.
-use Rattle.std.specs.Prelude.{Result, Ok, Err, Option, Some, None, ⊤}
+use Rattle.std.specs.Prelude.{Result, Option, Some, None, ⊤}
 use Prim.Native.Nat.{ℕ, ◌+◌, ◌-◌, ◌≤◌, ◌<◌}
 use native.Mathlib.Omega.{arith}
 use mathlib.Core.Bool.{Bool, true, false, cond, ◌&&◌, false≢true}
@@ -11,7 +11,6 @@ use lib.ListN.{length, take, drop}
 use lib.Seq.{take-add, drop-drop}
 use Rattle.words.specs.Numbers.{between}
 use Rattle.linewise.specs.Claims.{Read, reading, feed, fed}
-use Rattle.board.specs.Calls.{areas_of}
 use Rattle.bench_lines.specs.declared.desk.Bench.{Bench}
 use Rattle.bench_lines.specs.declared.desk.Desk.{Desk}
 use Rattle.bench_lines.specs.declared.named.Later.{Later}
@@ -21,7 +20,6 @@ use Rattle.bench_lines.specs.Steps.{State, step_of, first_of, saying, so_far, He
 use Rattle.bench_lines.specs.Claims.{left, Stepped}
 use Rattle.bench_lines.proofs.Feeding.{cut-feeds}
 use Rattle.bench_lines.proofs.Coding.{code-is-step}
-use Rattle.session.specs.declared.runs.Asked.{Asked}
 use Rattle.session.specs.declared.settles.Fault.{Fault}
 use Rattle.session.specs.Files.{asks_of, filed_step, Filed, filed, answer_of, file_of}
 use Rattle.session.specs.Runs.{roomy_of, Rests, Leaves, Reads, Asks}

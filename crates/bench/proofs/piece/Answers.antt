@@ -21,7 +21,7 @@ loop-next-preserved-in-Some g c =
           let x = l.invariant.3 answers bytes h in
           let went = w.ensures.0 x.answers x.rest x.held in
           let y = rw c.in-Some.is at went in
-          let z = f.ensures.2 y.was y.text y.page _ _ _ (sym (ap (λ (s : State). s.bench) y.before.state)) (sym (ap (λ (s : State). s.shelf) y.before.state)) y.from y.roomy y.after in
+          let z = f.ensures.2 y.was y.text y.page _ _ _ (rw c.in-Some.asked-is (sym (ap (λ (s : State). s.bench) y.before.state))) (rw c.in-Some.asked-is (sym (ap (λ (s : State). s.shelf) y.before.state))) (rw c.in-Some.asked-is y.from) y.roomy y.after in
           carries-asks _ bytes a.input.now 0 l.next w.result.next _ _ _ _ _ _ x (omega arith) w.ensures.1 _ _ _ _ _ _ _ _ y _ _ _ z,
     )
 

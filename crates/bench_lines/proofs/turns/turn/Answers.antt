@@ -1,4 +1,4 @@
-use Rattle.std.proofs.Common.{ℕ, ◌≡◌, ◌≤◌, List, length, take, true, false, sym, ap, subst, ◌∙◌, Option, IfSome}
+use Rattle.std.proofs.Common.{◌≡◌, ◌≤◌, length, take, true, false, sym, ap, subst, ◌∙◌, Option, IfSome}
 use Rattle.linewise.specs.declared.Reached.{Reached}
 use Rattle.bench_lines.specs.declared.named.Later.{Later}
 use Rattle.bench_lines.specs.Named.{Asking, Hears, lent}
