@@ -1,63 +1,53 @@
 // The file that records go to, for the dump.
 
+use bench_lines::desk::{Bench, Whose};
 use room::Room;
-use session::settles::NOT_WRITTEN;
+use session::settles::Fault;
 use std::fs::File;
 use std::io::Write;
 use std::rt::Files;
-use words::{FINE, NOT_OPENED};
 
-// Begins door.log anew in place of the file that records go to, which stays open where that fails; yields why it failed.
-fn anew<R: Files<File = File>>(rt: &R, file: &mut Option<File>) -> u8 {
+// Begins door.log anew in place of the file that records go to, which stays open where that fails.
+fn anew<R: Files<File = File>>(rt: &R, file: &mut Option<File>) -> Result<(), Fault> {
     match File::create(rt, "door.log") {
         Ok(next) => {
             *file = Some(next);
-            FINE
+            Ok(())
         }
-        Err(_) => NOT_OPENED,
+        Err(_) => Err(Fault::NotOpened),
     }
 }
 
-// Appends bytes to the file; yields why that failed, as it does where there is none.
-fn written(file: &mut Option<File>, bytes: &[u8]) -> u8 {
+// Appends bytes to the file, which fails where there is none.
+fn appended(file: &mut Option<File>, bytes: &[u8]) -> Result<(), Fault> {
     match file {
         Some(file) => match file.write_all(bytes) {
-            Ok(()) => FINE,
-            Err(_) => NOT_WRITTEN,
+            Ok(()) => Ok(()),
+            Err(_) => Err(Fault::NotWritten),
         },
-        None => NOT_WRITTEN,
+        None => Err(Fault::NotWritten),
     }
 }
 
-// Appends the first bytes of an area.
-fn appended(file: &mut Option<File>, area: &Room, count: usize) -> u8 {
-    let all = &area[..];
-    if count <= all.len() {
-        return written(file, &all[0..count]);
-    }
-    FINE
-}
-
-// Does what a line asks: begins the file anew, or appends so many bytes of the area of whom the records are. Yields why that failed, 0 where it did not.
+// Does what a line asks: begins the file anew, or appends as many bytes as it has for it, of the area of whom the records are.
 pub fn filed<R: Files<File = File>>(
     rt: &R,
     file: &mut Option<File>,
-    begun: bool,
-    count: usize,
-    whose: u64,
+    b: Bench,
     room: &Room,
     one: &Room,
     two: &Room,
-) -> u8 {
-    if begun {
+) -> Result<(), Fault> {
+    if b.anew {
         return anew(rt, file);
     }
-    if count == 0 {
-        return FINE;
+    let area = match b.whose {
+        Whose::One => one,
+        Whose::Two => two,
+        _ => room,
+    };
+    if (b.kept == 0) | (b.kept > area.len()) {
+        return Ok(());
     }
-    match whose {
-        1 => appended(file, one, count),
-        2 => appended(file, two, count),
-        _ => appended(file, room, count),
-    }
+    appended(file, &area[..b.kept])
 }

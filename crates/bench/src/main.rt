@@ -6,7 +6,6 @@ mod files;
 mod pages;
 
 ghost use Rattle.std.specs.Prelude.{ℕ, List, ◌≡◌, ◌≤◌, length};
-ghost use Rattle.page.specs.Page.{size};
 ghost use Rattle.bench_lines.specs.Claims.{left};
 ghost use Rattle.bench_lines.specs.Desk.{Sound, Stable};
 ghost use Rattle.bench_lines.specs.Named.{lent};
@@ -15,14 +14,14 @@ ghost use Rattle.session.specs.Runs.{Carries};
 
 use crate::files::filed;
 use crate::pages::{flush, turned};
-use bench_lines::desk::{Bench, Shelf};
-use linewise::{LONGEST, Line};
-use list_lines::made::{Items, LIST};
+use bench_lines::desk::{Bench, Desk, Shelf};
+use linewise::Line;
+use list_lines::made::Items;
 use log_lines::Area;
-use page::{Page, SIZE};
+use page::Page;
 use record_ring::BYTES;
 use room::{FILL, ROOM, Room};
-use session::runs::{Run, lines};
+use session::runs::lines;
 use session::settles::settled;
 use std::fs::File;
 use std::io::{Read, Write};
@@ -33,7 +32,7 @@ fn piece<R: Files<File = File>, W: Write>(
     rt: &R,
     file: &mut Option<File>,
     output: &mut W,
-    r: Run,
+    d: Desk,
     input: &[u8],
     line: &mut Line,
     room: &mut Room,
@@ -42,24 +41,23 @@ fn piece<R: Files<File = File>, W: Write>(
     area: &mut Area,
     items: &mut Items,
     page: &mut Page,
-) -> Run
-    requires { (Sound r.bench) × Stable r.shelf }
-    ensures { (Sound result.bench) × (Stable result.shelf) × ((answers bytes : List ℕ) → Held line.old r.held bytes → length page.old ≡ size → (Carries (left r.bench r.shelf (lent room.old area.old items.old) one.old two.old answers) bytes input.now result.bench result.shelf result.held (lent room.new area.new items.new) one.new two.new line.new) × (length page.new ≡ size)) }
+) -> Desk
+    requires { (Sound d.bench) × Stable d.shelf }
+    ensures { (Sound result.bench) × (Stable result.shelf) × ((answers bytes : List ℕ) → Held line.old bytes → Carries (left d.bench d.shelf (lent room.old area.old items.old) one.old two.old answers) bytes input.now result.bench result.shelf (lent room.new area.new items.new) one.new two.new line.new) }
 {
-    let mut run = r;
-    let mut i = 0;
-    while i < input.len() {
-        run.at = turned(output, page, run.at);
-        let went = lines(run, input, i, line, room, one, two, area, items, page);
-        i = went.next;
-        run = went.run;
-        if went.asks {
-            let b = run.bench;
-            let why = filed(rt, file, b.anew, b.kept, b.whose, room, one, two);
-            run = settled(run, went.before, went.spare, went.from, why, page);
+    let mut desk = d;
+    let mut next = 0;
+    while next < input.len() {
+        turned(output, page);
+        let went = lines(desk, input, next, line, room, one, two, area, items, page);
+        next = went.next;
+        desk = went.desk;
+        if let Some(asked) = went.asked {
+            let answer = filed(rt, file, desk.bench, room, one, two);
+            desk = settled(desk, asked, answer, page);
         }
     }
-    run
+    desk
 }
 
 // Reads the next bytes of the input; a read that fails is its end.
@@ -72,37 +70,34 @@ fn read<I: Read>(from: &mut I, input: &mut [u8]) -> usize
     }
 }
 
-// Reads piece after piece, until none comes; a line feed ends the last line. A proved loop has to end, and nothing says that the input does: it counts its turns
-// down, from a number that no run uses up.
+// Reads piece after piece, until none comes; a line feed ends the last line. A proved loop has to end, and nothing says that the input does: it has more turns
+// than any run uses up.
 fn main(rt: HostRuntime) {
     let mut from = rt.stdin();
     let mut output = rt.stdout();
     let mut file = None;
     let mut input = [0u8; 65536];
-    let mut line = [0u8; LONGEST];
+    let mut line = Line::new();
     let mut room = [FILL; ROOM];
     let mut one = [FILL; ROOM];
     let mut two = [FILL; ROOM];
     let mut area = [FILL; BYTES];
-    let mut items = [0u8; LIST];
-    let mut page = [0u8; SIZE];
-    let mut run = Run {
+    let mut items = Items::new();
+    let mut page = Page::new();
+    let mut desk = Desk {
         bench: Bench::new(),
         shelf: Shelf::new(),
-        at: 0,
-        held: 0,
     };
-    let mut turns = u64::MAX;
-    while turns > 0 {
+    for _ in 0..u64::MAX {
         let n = read(&mut from, &mut input);
         if n == 0 {
             break;
         }
-        run = piece(
+        desk = piece(
             &rt,
             &mut file,
             &mut output,
-            run,
+            desk,
             &input[..n],
             &mut line,
             &mut room,
@@ -112,13 +107,12 @@ fn main(rt: HostRuntime) {
             &mut items,
             &mut page,
         );
-        turns -= 1;
     }
-    run = piece(
+    let _ = piece(
         &rt,
         &mut file,
         &mut output,
-        run,
+        desk,
         b"\n",
         &mut line,
         &mut room,
@@ -128,5 +122,5 @@ fn main(rt: HostRuntime) {
         &mut items,
         &mut page,
     );
-    flush(&mut output, &page, run.at);
+    flush(&mut output, &page);
 }

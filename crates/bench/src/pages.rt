@@ -3,25 +3,21 @@
 ghost use Rattle.std.specs.Prelude.{true, ◌≡◌};
 ghost use Rattle.session.specs.Runs.{roomy_of};
 
-use page::{Page, SIZE};
+use page::Page;
 use session::runs::roomy;
 use std::io::Write;
 
-// Writes out the page up to a place; a write that fails is passed over.
-pub fn flush<W: Write>(output: &mut W, page: &Page, at: usize) {
-    if at <= SIZE {
-        let all = &page[..];
-        let _ = output.write_all(&all[0..at]);
-    }
+// Writes out the page; a write that fails is passed over.
+pub fn flush<W: Write>(output: &mut W, page: &Page) {
+    let _ = output.write_all(page.written());
 }
 
-// The place for the next answer: the page is written out where it has no room for the longest.
-pub fn turned<W: Write>(output: &mut W, page: &Page, at: usize) -> usize
-    ensures { roomy_of result ≡ true }
+// Makes room for the next answer: the page is written out where it has none for the longest.
+pub fn turned<W: Write>(output: &mut W, page: &mut Page)
+    ensures { roomy_of page.new ≡ true }
 {
-    if roomy(at) {
-        return at;
+    if !roomy(page) {
+        flush(output, page);
+        page.truncate(0);
     }
-    flush(output, page, at);
-    0
 }

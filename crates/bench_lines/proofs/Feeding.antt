@@ -1,78 +1,45 @@
 -- A script's lines as they are held, and as they are fed.
-use Rattle.std.proofs.Common.{◌≡◌, ℕ, suc, ◌+◌, ◌-◌, ◌<◌, ◌≤◌, Bool, true, false, cond, eqb, ltb, List, [], ◌∷◌, ◌++◌, length, take, drop, set, sym, refl, ap, ◌∙◌, append-nil, arith, length-drop, length-set, ltb-true}
+use Rattle.std.proofs.Common.{◌≡◌, ℕ, suc, ◌+◌, ◌-◌, ◌<◌, ◌≤◌, Bool, true, false, cond, eqb, ltb, List, [], ◌∷◌, ◌++◌, length, take, drop, sym, refl, ap, ◌∙◌, append-nil, arith, length-drop, ltb-true}
 use native.Mathlib.Decide.{dec_le}
 use mathlib.Core.List.{foldl, foldl-append}
-use lib.Seq.{sets-eq, append_snoc}
+use lib.Seq.{append_snoc}
 use Rattle.words.specs.Words.{before, first_from, sought}
 use Rattle.words.specs.Numbers.{between}
-use Rattle.linewise.specs.Lines.{holding, hold, holds, Holds, end_of, cut_of}
-use Rattle.linewise.specs.Lines as lines
+use Rattle.linewise.specs.Lines.{hold, holds, Holds, end_of, cut_of}
 use Rattle.linewise.specs.Claims.{Read, reading, feed, fed}
 use Rattle.linewise.proofs.Claims.{whole, too_long}
 use Rattle.bench_lines.specs.Steps.{Held}
 
 -- ---- what is held
 
-module _ (line bytes : List ℕ) (held : ℕ) (h : Held line held bytes) where
-  -- more of a line than can be held
-  pub held-over : 500 < held → 500 < length bytes
-  held-over k = go (dec_le (length bytes) 500)
+module _ (line bytes : List ℕ) (h : Held line bytes) where
+  -- a line that can be read is held whole
+  pub held_whole : length line ≤ 500 → line ≡ bytes
+  held_whole k = go (dec_le (length bytes) 500)
+    where
+      go : Dec (length bytes ≤ 500) → line ≡ bytes
+      go (yes q) = h.after ∙ whole bytes q
+      go (no q) =
+          let e : length line ≡ 501 = ap (λ (l : List ℕ). length l) h.after ∙ too_long bytes (omega arith) in
+          absurd (omega arith)
+
+  -- more than can be held is more than can be read
+  pub held_over : 500 < length line → 500 < length bytes
+  held_over k = go (dec_le (length bytes) 500)
     where
       go : Dec (length bytes ≤ 500) → 500 < length bytes
       go (yes q) =
-          let e : held ≡ length bytes = ap (λ (x : lines.Held). x.held) (h.holds.after ∙ whole h.before bytes q) in
+          let e : length line ≡ length bytes = ap (λ (l : List ℕ). length l) (h.after ∙ whole bytes q) in
           absurd (omega arith)
       go (no q) = omega arith
 
-  -- a line that is held whole
-  pub held-short : held ≤ 500 → length bytes ≤ 500
-  held-short k = go (dec_le (length bytes) 500)
-    where
-      go : Dec (length bytes ≤ 500) → length bytes ≤ 500
-      go (yes q) = q
-      go (no q) =
-          let e : held ≡ 501 = ap (λ (x : lines.Held). x.held) h.holds.after ∙ too_long h.before bytes (omega arith) in
-          absurd (omega arith)
-
-  pub held-is : held ≤ 500 → take held line ≡ bytes
-  held-is k =
-      let q = held-short k in
-      let e = h.holds.after ∙ whole h.before bytes q in
-      let n : held ≡ length bytes = ap (λ (x : lines.Held). x.held) e in
-      let l : line ≡ bytes ++ drop (0 + length bytes) h.before = ap (λ (x : lines.Held). x.line) e ∙ sets-eq bytes h.before 0 (omega (arith, h.size)) in
-      rw (n, l) (take-front bytes (drop (0 + length bytes) h.before))
-    where
-      take-front : (xs ys : List ℕ) → take (length xs) (xs ++ ys) ≡ xs
-      take-front [] ys = refl
-      take-front (x ∷ xs) ys = ap (λ (l : List ℕ). x ∷ l) (take-front xs ys)
-
--- a line keeps its size
-hold-size : (x : lines.Held) (b : ℕ) → length (hold x b).line ≡ length x.line
-unfolding hold
-hold-size x b = go (ltb x.held 500)
-  where
-    go : (t : Bool) → length (cond t (holding (set x.line x.held b) (x.held + 1)) (holding x.line 501)).line ≡ length x.line
-    go true = length-set x.line x.held b
-    go false = refl
-
-holds-size : (x : lines.Held) (bytes : List ℕ) → length (holds x bytes).line ≡ length x.line
-holds-size x [] = refl
-holds-size x (b ∷ bs) = holds-size (hold x b) bs ∙ hold-size x b
-
-pub held-size : (line bytes : List ℕ) (held : ℕ) → Held line held bytes → length line ≡ 500
-held-size line bytes held h = ap (λ (x : lines.Held). length x.line) h.holds.after ∙ holds-size (holding h.before 0) bytes ∙ h.size
-
 -- a line begins with nothing held
-pub held_none : (line : List ℕ) → length line ≡ 500 → Held line 0 []
-held_none line n = record { before = line; size = n; holds = record { after = refl } }
+pub held_none : Held [] []
+held_none = record { after = refl }
 
 -- some bytes more are held
-pub held_more : (line new bytes more : List ℕ) (held n : ℕ) → Held line held bytes → Holds line held new n more → Held new n (bytes ++ more)
-held_more line new bytes more held n h w = record {
-  before = h.before;
-  size = h.size;
-  holds = record { after = w.after ∙ ap (λ (x : lines.Held). holds x more) h.holds.after ∙ sym (foldl-append hold (holding h.before 0) bytes more) };
-}
+pub held_more : (line new bytes more : List ℕ) → Held line bytes → Holds line new more → Held new (bytes ++ more)
+held_more line new bytes more h w = record { after = w.after ∙ ap (λ (x : List ℕ). holds x more) h.after ∙ sym (foldl-append hold [] bytes more) }
 
 -- ---- what is fed
 
@@ -134,10 +101,10 @@ module _ (S : Type 0) (step : S → List ℕ → S) where
         omega arith
 
     -- what is read up to there, or behind the line feed
-    pub cut-feeds : (n : ℕ) → fed step (reading s l) (between input from (cut_of input from n).at)
-        ≡ cond (cut_of input from n).ended (reading (step s (l ++ between input from (end_of input from))) []) (reading s (l ++ between input from (end_of input from)))
+    pub cut-feeds : fed step (reading s l) (between input from (cut_of input from).at)
+        ≡ cond (cut_of input from).ended (reading (step s (l ++ between input from (end_of input from))) []) (reading s (l ++ between input from (end_of input from)))
     unfolding cut_of
-    cut-feeds n = go (ltb (end_of input from) (length input)) refl
+    cut-feeds = go (ltb (end_of input from) (length input)) refl
       where
         m : ℕ
         m = before feeds (drop from input)

@@ -1,4 +1,3 @@
-pub mod Saying
 pub mod Hearing
 pub mod Shelving
 pub mod Feeding

@@ -1,10 +1,11 @@
 -- What is proved of a script's lines beside the functions.
-use Rattle.std.specs.Prelude.{◌≡◌, ℕ, ◌+◌, ◌<◌, ◌≤◌, true, List, ◌++◌, length, take}
+use Rattle.std.specs.Prelude.{◌≡◌, ℕ, ◌+◌, ◌≤◌, true, List, ◌++◌, length, take, Some, None}
 use Rattle.page.specs.Page.{size, Puts}
 use Rattle.board.specs.Calls.{areas_of}
 use Rattle.bench_lines.specs.declared.desk.Bench.{Bench}
+use Rattle.bench_lines.specs.declared.desk.Desk.{Desk}
 use Rattle.bench_lines.specs.declared.desk.Shelf.{Shelf}
-use Rattle.bench_lines.specs.declared.shelved.Left.{Left}
+use Rattle.bench_lines.specs.declared.named.Later.{Later}
 use Rattle.bench_lines.specs.declared.turns.Turned.{Turned}
 use Rattle.bench_lines.specs.Named.{Lent, lent}
 use Rattle.bench_lines.specs.Shelved.{shelved_of, Works}
@@ -27,24 +28,24 @@ abbrev pub left : Bench → Shelf → Lent → List ℕ → List ℕ → List �
 left b shelf l one two answers = record { bench = b; shelf = shelf; lent = l; one = one; two = two; answers = answers }
 
 -- it is the state after a line, and the page took the bytes that the line adds to the answers
-pub record Stepped (s : State) (line old : List ℕ) (from : ℕ) (new : List ℕ) (at : ℕ) (b : Bench) (shelf : Shelf) (l : Lent) (one two : List ℕ) : Type 0 where
+pub record Stepped (s : State) (line old new : List ℕ) (b : Bench) (shelf : Shelf) (l : Lent) (one two : List ℕ) : Type 0 where
   pub bytes : List ℕ
-  pub puts : Puts old from new at bytes
+  pub puts : Puts old new bytes
   pub step : left b shelf l one two (s.answers ++ bytes) ≡ step_of s line
 
 -- `turn`, of a line that ended and asks nothing of the shelf
 abbrev pub TurnIsStep : Type 0
-TurnIsStep = (s : State) (bytes input : List ℕ) (start : ℕ) (old : List ℕ) (from : ℕ) (new room area items line : List ℕ) (r : Turned)
-    → Turns s.bench s.lent bytes input start old from new room area items line r → r.ended ≡ true → r.later.which ≡ 0
-    → Stepped s (so_far bytes input start) old from new r.at r.bench s.shelf (lent room area items) s.one s.two
+TurnIsStep = (s : State) (bytes input : List ℕ) (start : ℕ) (old new room area items line : List ℕ) (r : Turned)
+    → Turns s.bench s.lent bytes input start old new room area items line r → r.ended ≡ true → r.later ≡ None
+    → Stepped s (so_far bytes input start) old new r.bench s.shelf (lent room area items) s.one s.two
 
--- and then `shelved`, of one that does, from the same place of the page
+-- and then `shelved`, of one that does, with the page as `turn` leaves it
 abbrev pub ShelvedIsStep : Type 0
-ShelvedIsStep = (s : State) (bytes input : List ℕ) (start : ℕ) (old : List ℕ) (from : ℕ) (new room area items line : List ℕ) (r : Turned)
-    → Turns s.bench s.lent bytes input start old from new room area items line r → 0 < r.later.which
-    → (last room' one two : List ℕ) (x : Left)
-    → Works (shelved_of r.bench s.shelf (areas_of room s.one s.two) (take r.later.end line) r.later.which r.later.at) new from last room' one two x
-    → Stepped s (so_far bytes input start) old from last x.at x.bench x.shelf (lent room' area items) one two
+ShelvedIsStep = (s : State) (bytes input : List ℕ) (start : ℕ) (old new room area items line : List ℕ) (r : Turned) (q : Later)
+    → Turns s.bench s.lent bytes input start old new room area items line r → r.later ≡ Some q
+    → (last room' one two : List ℕ) (x : Desk)
+    → Works (shelved_of r.bench s.shelf (areas_of room s.one s.two) (take q.end line) q.device q.at) new last room' one two x
+    → Stepped s (so_far bytes input start) old last x.bench x.shelf (lent room' area items) one two
 
 abbrev pub CodeIsStep : Type 0
 CodeIsStep = TurnIsStep × ShelvedIsStep

@@ -18,14 +18,14 @@ unfoldable pub answers_of : List (String × String) → List ℕ
 answers_of [] = []
 answers_of (r ∷ rs) = text r.1 ++ answers_of rs
 
--- before its first line: the log's area is filled with A5, and what else is lent may hold anything
-abbrev pub begun : List ℕ → List ℕ → List ℕ → List ℕ → State
-begun room items one two =
-    record { bench = fresh_bench; shelf = fresh_shelf; lent = lent room (replicate 60000 0xA5) items; one = one; two = two; answers = [] }
+-- before its first line: the log's area is filled with A5, the list is empty, and what else is lent may hold anything
+abbrev pub begun : List ℕ → List ℕ → List ℕ → State
+begun room one two =
+    record { bench = fresh_bench; shelf = fresh_shelf; lent = lent room (replicate 60000 0xA5) []; one = one; two = two; answers = [] }
 
 -- one fold over its lines gives the answers
 abbrev pub Reads : List (String × String) → Type 0
-Reads rows = (room items one two : List ℕ) → (foldl step_of (begun room items one two) (lines_of (script_of rows))).answers ≡ answers_of rows
+Reads rows = (room one two : List ℕ) → (foldl step_of (begun room one two) (lines_of (script_of rows))).answers ≡ answers_of rows
 
 -- README, "A script of your own"
 abbrev pub own : List (String × String)

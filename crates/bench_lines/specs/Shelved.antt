@@ -1,5 +1,6 @@
 -- The lines on the scheduler and on the board (docs/SCRIPT.md, "Pins and the scheduler", "The board").
-use Rattle.std.specs.Prelude.{◌≡◌, ℕ, Bool, cond, ◌&&◌, List, [], ◌∷◌, ◌++◌, ◌==◌, nat_lt}
+use Rattle.std.specs.Prelude.{◌≡◌, ℕ, Bool, true, false, ◌&&◌, List, [], ◌∷◌, ◌++◌, Result, Ok, Err}
+use Rattle.words.specs.declared.Unreadable.{Unreadable}
 use Rattle.page.specs.Page.{Puts, unreadable_of}
 use Rattle.sched_lines.specs.Sched.{sched_of}
 use Rattle.scheduler.specs.declared.Scheduler.{Scheduler}
@@ -9,8 +10,12 @@ use Rattle.board_lines.specs.Asked.{asked_of}
 use Rattle.board_lines.specs.Ordered.{Lined, order_line}
 use Rattle.board_lines.specs.declared.asked.Asked.{Asked}
 use Rattle.bench_lines.specs.declared.desk.Bench.{Bench}
+use Rattle.bench_lines.specs.declared.desk.Desk.{Desk}
 use Rattle.bench_lines.specs.declared.desk.Shelf.{Shelf}
-use Rattle.bench_lines.specs.declared.shelved.Left.{Left}
+use Rattle.bench_lines.specs.declared.desk.Whose.{Whose}
+use Rattle.bench_lines.specs.declared.desk.Whose.TheVariants as whose
+use Rattle.bench_lines.specs.declared.named.Device.{Device}
+use Rattle.bench_lines.specs.declared.named.Device.TheVariants as device
 use Rattle.bench_lines.specs.Desk.{Sound, Stable}
 
 -- what a line leaves: the bench, the shelf, the answer's bytes, and the three areas
@@ -25,44 +30,58 @@ working b s areas bytes = record { bench = b; shelf = s; bytes = bytes; areas = 
 
 -- a scheduler's line
 abbrev pub scheduled_of : Bench → Shelf → Areas → Scheduler × List ℕ → Worked
-scheduled_of b s areas x = working b (record { scheduler = x.0; boarded = s.boarded }) areas x.1
+scheduled_of b s areas x = working b (record { scheduler = x.0; board = s.board }) areas x.1
 
 -- "or with T of the board's timer T alone": how many bytes the file takes of the three timers' records
-unfoldable pub board_kept : ℕ → Written → ℕ
-board_kept whose w = cond (whose == 0) w.zero (cond (whose == 1) w.one (cond (whose == 2) w.two 0))
+unfoldable pub board_kept : Whose → Written → ℕ
+board_kept whose.Zero w = w.zero
+board_kept whose.One w = w.one
+board_kept whose.Two w = w.two
+board_kept whose.Script w = 0
+board_kept whose.Nobody w = 0
+
+-- does the file take the records of one of the board's timers
+unfoldable pub on_board : Whose → Bool
+on_board whose.Zero = true
+on_board whose.One = true
+on_board whose.Two = true
+on_board whose.Script = false
+on_board whose.Nobody = false
 
 -- the bench with so many bytes for the file, and whether that is begun anew
 abbrev pub filed : Bench → ℕ → Bool → Bench
 filed b kept anew =
-    record { socket = b.socket; watched = b.watched; doors = b.doors; ring = b.ring; items = b.items; line = b.line; whose = b.whose; kept = kept; anew = anew }
+    record { timer = b.timer; watchdog = b.watchdog; door = b.door; ring = b.ring; line = b.line; whose = b.whose; kept = kept; anew = anew }
 
 -- after a board's line: "with T at every `board new`" the file is begun anew
 abbrev pub filed_of : Bench → Lined → Bench
-filed_of b x = filed b (board_kept b.whose x.written) (x.fresh && nat_lt b.whose 3)
+filed_of b x = filed b (board_kept b.whose x.written) (x.fresh && on_board b.whose)
 
 -- the board that an order leaves
 abbrev pub taken_of : Bench → Shelf → Lined → Worked
-taken_of b s x = working (filed_of b x) (record { scheduler = s.scheduler; boarded = x.boarded }) x.areas x.bytes
+taken_of b s x = working (filed_of b x) (record { scheduler = s.scheduler; board = x.board }) x.areas x.bytes
 
 -- a board's line
-unfoldable pub ordered_of : Bench → Shelf → Areas → Asked → Worked
-ordered_of b s areas q = cond (q.why == 0) (taken_of b s (order_line s.boarded q areas)) (working b s areas (unreadable_of b.line q.why))
+unfoldable pub ordered_of : Bench → Shelf → Areas → Result Asked Unreadable → Worked
+ordered_of b s areas (Ok q) = taken_of b s (order_line s.board q areas)
+ordered_of b s areas (Err why) = working b s areas (unreadable_of b.line why)
 
--- by its name's place, from the place after it: `sched` is 9
-unfoldable pub answered_of : Bench → Shelf → Areas → List ℕ → ℕ → ℕ → Worked
-answered_of b s areas line which at = cond (which == 9) (scheduled_of b s areas (sched_of s.scheduler b.line line at)) (ordered_of b s areas (asked_of line at))
+-- of which device, from the place after its name
+unfoldable pub answered_of : Bench → Shelf → Areas → List ℕ → Device → ℕ → Worked
+answered_of b s areas line device.Scheduler at = scheduled_of b s areas (sched_of s.scheduler b.line line at)
+answered_of b s areas line device.Board at = ordered_of b s areas (asked_of line at)
 
 -- with the line feed that ends the answer
-abbrev pub shelved_of : Bench → Shelf → Areas → List ℕ → ℕ → ℕ → Worked
-shelved_of b s areas line which at =
-    let x = answered_of b s areas line which at in
+abbrev pub shelved_of : Bench → Shelf → Areas → List ℕ → Device → ℕ → Worked
+shelved_of b s areas line d at =
+    let x = answered_of b s areas line d at in
     working x.bench x.shelf x.areas (x.bytes ++ 10 ∷ [])
 
 -- what the code leaves is what the line's definition says, every byte of the three areas too, sound and stable
-pub record Works (x : Worked) (old : List ℕ) (from : ℕ) (new : List ℕ) (room one two : List ℕ) (r : Left) : Type 0 where
+pub record Works (x : Worked) (old new room one two : List ℕ) (r : Desk) : Type 0 where
   pub bench : r.bench ≡ x.bench
   pub shelf : r.shelf ≡ x.shelf
-  pub puts : Puts old from new r.at x.bytes
+  pub puts : Puts old new x.bytes
   pub areas : areas_of room one two ≡ x.areas
   pub sound : Sound r.bench
   pub stable : Stable r.shelf

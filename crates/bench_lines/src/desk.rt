@@ -4,33 +4,32 @@ ghost use Rattle.std.specs.Prelude.{◌≡◌};
 ghost use Rattle.bench_lines.specs.Desk.{Sound, Stable, fresh_bench, fresh_shelf};
 
 use board::state::Board;
-use board_lines::ordered::Boarded;
-use config::Config;
 use counter::state::Timer;
-use door::Set;
-use door_lines::rules::Doors;
+use door::Door;
 use oscillator::state::Watchdog;
 use record_ring::Ring;
 use scheduler::Scheduler;
-use timer_lines::socket::Socket;
-use wdt_lines::called::Watched;
 
-// Whose records the file takes: a timer of the board's by its id, the script's timer behind these, or nobody's.
-pub const SCRIPT: u64 = 3;
+// Whose records the file takes: one of the board's timers', the script's timer's, or nobody's.
+#[derive(Clone, Copy, PartialEq, Eq)]
+pub enum Whose {
+    Zero,
+    One,
+    Two,
+    Script,
+    Nobody,
+}
 
-const NOBODY: u64 = 4;
-
-// What most lines work on: one timer, one watchdog, one door, one log, how many items the list holds, and the number of the last line. Of the file, whose
+// What most lines work on: one timer, one watchdog, one door, one log, and the number of the last line. Of the file, whose
 // records it takes, how many bytes of them the last line has for it, and whether it is begun anew.
 #[derive(Clone, Copy)]
 pub struct Bench {
-    pub socket: Socket,
-    pub watched: Watched,
-    pub doors: Doors,
+    pub timer: Option<Timer>,
+    pub watchdog: Option<Watchdog>,
+    pub door: Option<Door>,
     pub ring: Ring,
-    pub items: usize,
     pub line: u64,
-    pub whose: u64,
+    pub whose: Whose,
     pub kept: usize,
     pub anew: bool,
 }
@@ -39,7 +38,14 @@ pub struct Bench {
 #[derive(Clone, Copy)]
 pub struct Shelf {
     pub scheduler: Scheduler,
-    pub boarded: Boarded,
+    pub board: Option<Board>,
+}
+
+// All that a script works on.
+#[derive(Clone, Copy)]
+pub struct Desk {
+    pub bench: Bench,
+    pub shelf: Shelf,
 }
 
 impl Bench {
@@ -47,27 +53,13 @@ impl Bench {
     pub fn new() -> Bench
         ensures { (Sound result) × (result ≡ fresh_bench) }
     {
-        let started = Timer::new(Config::least());
-        let timer = started.timer;
-        let socket = Socket {
-            ready: false,
-            timer,
-        };
-        let watched = Watched {
-            ready: false,
-            watchdog: Watchdog::new(),
-        };
-        let doors = Doors {
-            set: Set::Refused(22),
-        };
         Bench {
-            socket,
-            watched,
-            doors,
+            timer: None,
+            watchdog: None,
+            door: None,
             ring: Ring::new(),
-            items: 0,
             line: 0,
-            whose: NOBODY,
+            whose: Whose::Nobody,
             kept: 0,
             anew: false,
         }
@@ -79,13 +71,9 @@ impl Shelf {
     pub fn new() -> Shelf
         ensures { (Stable result) × (result ≡ fresh_shelf) }
     {
-        let boarded = Boarded {
-            ready: false,
-            board: Board::new(),
-        };
         Shelf {
             scheduler: Scheduler::new(),
-            boarded,
+            board: None,
         }
     }
 }

@@ -2,96 +2,135 @@
 
 ghost use Rattle.std.specs.Prelude.{◌≡◌, ◌≤◌, length};
 ghost use Rattle.bench_lines.specs.Desk.{Sound};
-ghost use Rattle.bench_lines.specs.Named.{Leaves, Hears, lent, nothing, named_of, worded_of};
+ghost use Rattle.bench_lines.specs.Named.{Leaves, Hears, lent, other_of, command_of, later_of, named_of, worded_of};
 
 use crate::desk::Bench;
-use crate::lines::{Said, configured, doored, itemed, listed, logged, recorded, timed, watched};
-use list_lines::made::Items;
+use crate::lines::{configured, doored, listed, logged, recorded, timed, watched};
+use list_lines::made::{Items, item_line};
 use log_lines::Area;
-use page::{Page, unreadable};
+use page::Page;
 use pin_lines::pin_line;
 use room::Room;
-use timer_lines::named::{NAMES, named};
-use words::{UNKNOWN_COMMAND, find, place};
+use words::{Unreadable, find, place};
 
-// The places of `sched` and `board` among the names below.
-pub const SCHED: usize = 9;
+// What stands on the shelf.
+#[derive(Clone, Copy, PartialEq, Eq)]
+pub enum Device {
+    Scheduler,
+    Board,
+}
 
-pub const BOARD: usize = 10;
+// A line's command: one of the timer's, one of the bench's others, or one of what stands on the shelf.
+#[derive(Clone, Copy)]
+pub enum Command {
+    Timer(timer_lines::named::Command),
+    Config,
+    Preset,
+    Pin,
+    Wdt,
+    Writes,
+    Item,
+    Door,
+    Log,
+    Record,
+    Shelf(Device),
+}
 
-// What a line asks of the shelf: by its name's place, 0 where it asks nothing; the place after its name, and where the line ends.
+// What a line asks of the shelf: of which device, the place after its name, and where the line ends.
 #[derive(Clone, Copy)]
 pub struct Later {
-    pub which: usize,
+    pub device: Device,
     pub at: usize,
     pub end: usize,
 }
 
-// The bench after a line, the place after what was put on the page, and what is asked of the shelf.
+// The bench after a line, and what is asked of the shelf.
 #[derive(Clone, Copy)]
 pub struct Heard {
     pub bench: Bench,
-    pub at: usize,
-    pub later: Later,
+    pub later: Option<Later>,
 }
 
-// Answers a line of the bench, by its name's place, from the place after its name.
-fn line_of(
-    b: Bench,
-    page: &mut Page,
-    from: usize,
-    line: &[u8],
-    at: usize,
-    name: usize,
-    room: &mut Room,
-    area: &mut Area,
-    items: &mut Items,
-) -> Said
-    requires { Sound b }
-    ensures { Leaves (named_of b line.now at name (lent room.old area.old items.old)) page.old from page.new room.new area.new items.new result }
-{
-    match name {
-        0 => configured(b, page, from, line, at, false),
-        1 => configured(b, page, from, line, at, true),
-        2 => Said {
-            bench: b,
-            at: pin_line(page, from, b.line, line, at),
-        },
-        3 => watched(b, page, from, line, at, room),
-        4 => listed(b, page, from, line, at, items, room),
-        5 => itemed(b, page, from, line, at, items),
-        6 => doored(b, page, from, line, at),
-        7 => logged(b, page, from, line, at, area),
-        8 => recorded(b, page, from, line, at),
-        _ => Said {
-            bench: b,
-            at: unreadable(page, from, b.line, UNKNOWN_COMMAND),
-        },
-    }
-}
-
-impl Later {
-    // Nothing is asked of the shelf.
-    pub fn nothing() -> Later
-        ensures { result ≡ nothing }
+impl Command {
+    // The command of a place among the names beside the timer's.
+    #[tactic(auto, unfolding(crate::specs::Named::other_of))]
+    fn other(place: usize) -> Command
+        ensures { result ≡ other_of place }
     {
-        Later {
-            which: 0,
-            at: 0,
-            end: 0,
+        match place {
+            0 => Command::Config,
+            1 => Command::Preset,
+            2 => Command::Pin,
+            3 => Command::Wdt,
+            4 => Command::Writes,
+            5 => Command::Item,
+            6 => Command::Door,
+            7 => Command::Log,
+            8 => Command::Record,
+            9 => Command::Shelf(Device::Scheduler),
+            _ => Command::Shelf(Device::Board),
+        }
+    }
+
+    // The command of a line's first word.
+    #[tactic(auto, unfolding(crate::specs::Named::or_other, figures::specs::Figures::codes))]
+    fn of(word: &[u8]) -> Option<Command>
+        ensures { result ≡ command_of word.now }
+    {
+        if let Some(command) = timer_lines::named::named(word) {
+            return Some(Command::Timer(command));
+        }
+        let place = place(
+            b"config preset pin wdt writes item door log record sched board",
+            word,
+        )?;
+        Some(Command::other(place))
+    }
+
+    // What the command asks of the shelf, of a line from the place after its name to its end.
+    #[tactic(auto, unfolding(crate::specs::Named::later_of))]
+    fn later(self, at: usize, end: usize) -> Option<Later>
+        ensures { result ≡ later_of self at end }
+    {
+        match self {
+            Command::Shelf(device) => Some(Later { device, at, end }),
+            _ => None,
         }
     }
 }
 
-// A line of the bench asks nothing of the shelf.
-fn answered(s: Said) -> Heard
-    ensures { result ≡ record { bench = s.bench; at = s.at; later = nothing } }
+// Answers a line of the bench from the place after its name; of the shelf's nothing yet.
+fn line_of(
+    b: Bench,
+    page: &mut Page,
+    line: &[u8],
+    at: usize,
+    command: Command,
+    room: &mut Room,
+    area: &mut Area,
+    items: &mut Items,
+) -> Bench
+    requires { Sound b }
+    ensures { Leaves (named_of b line.now at command (lent room.old area.old items.old)) page.old page.new room.new area.new items.new result }
 {
-    let bench = s.bench;
-    Heard {
-        bench,
-        at: s.at,
-        later: Later::nothing(),
+    match command {
+        Command::Timer(command) => timed(b, page, line, at, command, room),
+        Command::Config => configured(b, page, line, at, false),
+        Command::Preset => configured(b, page, line, at, true),
+        Command::Pin => {
+            pin_line(page, b.line, line, at);
+            b
+        }
+        Command::Wdt => watched(b, page, line, at, room),
+        Command::Writes => listed(b, page, line, at, items, room),
+        Command::Item => {
+            item_line(items, page, b.line, line, at);
+            b
+        }
+        Command::Door => doored(b, page, line, at),
+        Command::Log => logged(b, page, line, at, area),
+        Command::Record => recorded(b, page, line, at),
+        Command::Shelf(_) => b,
     }
 }
 
@@ -99,7 +138,6 @@ fn answered(s: Said) -> Heard
 pub fn worded(
     b: Bench,
     page: &mut Page,
-    from: usize,
     line: &[u8],
     start: usize,
     room: &mut Room,
@@ -107,28 +145,19 @@ pub fn worded(
     items: &mut Items,
 ) -> Heard
     requires { (Sound b) × (start ≤ length line.now) }
-    ensures { Hears (worded_of b line.now start (lent room.old area.old items.old)) page.old from page.new room.new area.new items.new result }
+    ensures { Hears (worded_of b line.now start (lent room.old area.old items.old)) page.old page.new room.new area.new items.new result }
 {
-    let end = find(line, start, b' ');
-    let name = named(&line[start..end]);
-    if name < NAMES {
-        return answered(timed(b, page, from, line, end, name, room));
-    }
-    let name = place(
-        b"config preset pin wdt writes item door log record sched board",
-        &line[start..end],
-    );
-    if (name == SCHED) | (name == BOARD) {
-        let later = Later {
-            which: name,
-            at: end,
-            end: line.len(),
-        };
+    let at = find(line, start, b' ');
+    let Some(command) = Command::of(&line[start..at]) else {
+        page.unreadable(b.line, Unreadable::UnknownCommand);
         return Heard {
             bench: b,
-            at: from,
-            later,
+            later: None,
         };
+    };
+    let bench = line_of(b, page, line, at, command, room, area, items);
+    Heard {
+        bench,
+        later: command.later(at, line.len()),
     }
-    answered(line_of(b, page, from, line, end, name, room, area, items))
 }

@@ -4,7 +4,6 @@ use Rattle.counter.specs.declared.state.Timer.{Timer}
 use Rattle.counter.specs.Fresh.{fresh_of}
 use Rattle.counter.specs.Next.{next_of}
 use Rattle.counter.specs.Valid.{Valid as Running}
-use Rattle.scheduler.specs.Scheduler.{holding, Valid as Planned}
 use Rattle.plans.specs.Plans.{planned_of}
 use Rattle.m328p.specs.declared.Id.{Id}
 use Rattle.m328p.specs.declared.Id.TheVariants as id
@@ -16,7 +15,6 @@ pub record Valid (b : Board) : Type 0 where
   pub zero : Running b.zero
   pub one : Running b.one
   pub two : Running b.two
-  pub scheduler : Planned b.scheduler
 
 -- the timer of an id
 abbrev pub timer_of : Board → Id → Timer
@@ -37,4 +35,4 @@ board_all b x y z gtccr =
 
 -- a fresh board, at cycle 0
 abbrev pub fresh_board : Board
-fresh_board = record { zero = fresh_of timer0; one = fresh_of timer1; two = fresh_of timer2; scheduler = holding []; gtccr = 0 }
+fresh_board = record { zero = fresh_of timer0; one = fresh_of timer1; two = fresh_of timer2; scheduler = []; gtccr = 0 }

@@ -35,44 +35,33 @@ impl Board {
     }
 
     // Yields the board with one timer after a call of its own.
+    #[tactic(auto, unfolding(crate::specs::State::board_to))]
     pub fn with(self, id: Id, t: Timer) -> Board
         requires { (Valid self) × Running t }
         ensures { (result ≡ board_to self id t) × Valid result }
     {
-        let s = self.scheduler;
-        let scheduler = planned(s, id, t.next());
-        let mut b = self;
-        b.scheduler = scheduler;
+        let scheduler = planned(self.scheduler, id, t.next());
+        let b = Board { scheduler, ..self };
         match id {
-            Id::Zero => {
-                b.zero = t;
-                b
-            }
-            Id::One => {
-                b.one = t;
-                b
-            }
-            Id::Two => {
-                b.two = t;
-                b
-            }
+            Id::Zero => Board { zero: t, ..b },
+            Id::One => Board { one: t, ..b },
+            Id::Two => Board { two: t, ..b },
         }
     }
 
     // Yields the board with all three timers and GTCCR after what reached them.
+    #[tactic(auto, unfolding(crate::specs::State::board_all))]
     pub fn with_all(self, x: Timer, y: Timer, z: Timer, gtccr: u8) -> Board
         requires { (Valid self) × (Running x) × (Running y) × Running z }
         ensures { (result ≡ board_all self x y z gtccr) × Valid result }
     {
-        let s = self.scheduler;
-        let first = planned(s, Id::Zero, x.next());
+        let first = planned(self.scheduler, Id::Zero, x.next());
         let second = planned(first, Id::One, y.next());
-        let scheduler = planned(second, Id::Two, z.next());
         Board {
             zero: x,
             one: y,
             two: z,
-            scheduler,
+            scheduler: planned(second, Id::Two, z.next()),
             gtccr,
         }
     }

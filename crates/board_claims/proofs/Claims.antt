@@ -25,7 +25,6 @@ use Rattle.timer.specs.Calls.{answered}
 use Rattle.timer.proofs.Alike.{told-alike}
 use Rattle.timer.proofs.Keeps.{call-keeps}
 use Rattle.scheduler.specs.declared.Scheduler.{Scheduler}
-use Rattle.scheduler.specs.Scheduler.{held}
 use Rattle.scheduler.specs.Runs.{run}
 use Rattle.scheduler.proofs.Runs.{always}
 use Rattle.m328p.specs.declared.Id.{Id}
@@ -165,7 +164,7 @@ fresh-runs id.Two = fresh-is-valid timer2 (all-accepted id.Two)
 -- ---- and the scheduler with exactly their next events
 
 -- of a scheduler that is the same
-exact-in : {n : Id → Next} {s t : Scheduler} → s ≡ t → Exact n (held t) → Exact n (held s)
+exact-in : {n : Id → Next} {s t : Scheduler} → s ≡ t → Exact n t → Exact n s
 exact-in e x = rw e x
 
 to-plans : (b : Board) (i : Id) (t : Timer) → Schedules b → Schedules (board_to b i t)

@@ -9,7 +9,6 @@ use Rattle.timer.specs.declared.calls.Call.{Call}
 use Rattle.timer.specs.declared.calls.Call.TheVariants as call
 use Rattle.timer.specs.Claims.{Request as Timer-as-Request, last as Timer·last, Always, HeldOf, QuietOf}
 use Rattle.outlook.specs.Announced.{AnnouncedOf}
-use Rattle.scheduler.specs.Scheduler.{held}
 use Rattle.scheduler.specs.Runs.{Sound}
 use Rattle.m328p.specs.declared.Id.{Id}
 use Rattle.plans.specs.Plans.{key_of, Exact, Apart}
@@ -64,7 +63,7 @@ nexts_of b i = next_of (timer_of b i)
 
 -- the scheduler holds exactly the next events that the three timers have, under a key each
 abbrev pub Schedules : Board → Type 0
-Schedules b = (Sound b.scheduler) × Exact (nexts_of b) (held b.scheduler)
+Schedules b = (Sound b.scheduler) × Exact (nexts_of b) b.scheduler
 
 -- Scheduled: after any list of orders it does
 abbrev pub Scheduled : Type 0

@@ -3,13 +3,13 @@ use Prim.Native.Nat.{ℕ, ◌+◌, ◌*◌, ◌≤◌}
 use Prim.Native.String.{String, len}
 use native.Mathlib.Omega.{arith}
 use mathlib.Core.List.{◌++◌}
-use mathlib.Core.Option.{Option, none, some}
+use Rattle.std.specs.Prelude.{Option, Some, None}
 use lib.ListN.{length, length-append}
 use Rattle.figures.specs.Figures.{text}
 use Rattle.figures.proofs.Writing.{number_short}
 use Rattle.page.proofs.Lengths.{numbered, codes-length, pair-length}
 use Rattle.counter.specs.Next.{next_of}
-use Rattle.scheduler.specs.Scheduler.{held, cycle_of}
+use Rattle.scheduler.specs.Scheduler.{cycle_of}
 use Rattle.m328p.specs.declared.Id.TheVariants as id
 use Rattle.plans.specs.Plans.{key_of}
 use Rattle.display.proofs.Claims.{short-state}
@@ -18,7 +18,7 @@ use Rattle.board.specs.Calls.{Areas}
 use Rattle.board.specs.declared.outcome.Outcome.{Outcome}
 use Rattle.board.specs.declared.outcome.Written.{Written}
 use Rattle.board.specs.declared.state.Board.{Board}
-use Rattle.board_lines.specs.Shown.{nexts_of, records_of, answer_of, held_at, board_of}
+use Rattle.board_lines.specs.Shown.{nexts_of, records_of, answer_of, held_at, plans_of, board_of}
 
 -- ---- an order's answer
 
@@ -61,16 +61,22 @@ answer-short o areas =
 
 held-short : (label : String) (cycle : Option ℕ) → length (held_at (text label) cycle) ≤ len label + 20
 unfolding held_at
-held-short label (some cycle) = numbered label _ cycle (omega arith)
-held-short label none = simp (length-append, codes-length) (omega arith)
+held-short label (Some cycle) = numbered label _ cycle (omega arith)
+held-short label None = simp (length-append, codes-length) (omega arith)
+
+plans-short : (b : Board) → length (plans_of b) ≤ 83
+unfolding plans_of
+plans-short b =
+    let zero = held-short " sched=" (cycle_of (key_of id.Zero) b.scheduler) in
+    let one = held-short "," (cycle_of (key_of id.One) b.scheduler) in
+    let two = held-short "," (cycle_of (key_of id.Two) b.scheduler) in
+    simp (length-append, codes-length, pair-length) (omega arith)
 
 pub board-short : (b : Board) → length (board_of b) ≤ 1877
 unfolding board_of
 board-short b =
-    let zero = held-short " sched=" (cycle_of (key_of id.Zero) (held b.scheduler)) in
-    let one = held-short "," (cycle_of (key_of id.One) (held b.scheduler)) in
-    let two = held-short "," (cycle_of (key_of id.Two) (held b.scheduler)) in
+    let h = plans-short b in
     let x = short-state b.zero in
     let y = short-state b.one in
     let z = short-state b.two in
-    simp (length-append, codes-length, pair-length) (omega arith)
+    simp length-append (omega arith)

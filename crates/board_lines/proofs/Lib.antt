@@ -1,4 +1,3 @@
-pub mod Asking
 pub mod Ordering
 pub mod Areas
 pub mod Lengths

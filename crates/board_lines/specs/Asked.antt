@@ -1,94 +1,126 @@
--- What a line asks of the board (docs/SCRIPT.md, "The board"): its words from left to right, by the name's place among the orders.
-use Rattle.std.specs.Prelude.{ℕ, ◌%◌, ◌^◌, ◌-◌, cond, List, eqb, ltb, length}
+-- What a line asks of the board (docs/SCRIPT.md, "The board"): its words from left to right, as its name asks for them.
+use Rattle.std.specs.Prelude.{ℕ, ◌+◌, ◌%◌, ◌^◌, ◌-◌, cond, List, ◌==◌, length, Option, Some, None, is_some, ok_or, Result, Ok, Err}
+use Rattle.std.specs.Str.{bytes_eq}
 use Rattle.figures.specs.Figures.{text}
-use Rattle.words.specs.Words.{exactly_of, skip_of, find_of, place_of}
-use Rattle.words.specs.Numbers.{between, next_of, nothing_of}
-use Rattle.words.specs.declared.Cursor.{Cursor}
+use Rattle.words.specs.Words.{exactly_of, skip_of, find_of, and_then}
+use Rattle.words.specs.Numbers.{between, next_of}
 use Rattle.words.specs.declared.Taken.{Taken}
+use Rattle.words.specs.declared.Unreadable.{Unreadable}
+use Rattle.words.specs.declared.Unreadable.TheVariants as unreadable
 use Rattle.m328p.specs.declared.Id.{Id}
 use Rattle.m328p.specs.declared.Id.TheVariants as id
 use Rattle.aims.specs.declared.Order.{Order}
 use Rattle.aims.specs.declared.Order.TheVariants as order
 use Rattle.board_lines.specs.declared.asked.Asked.{Asked}
+use Rattle.board_lines.specs.declared.asked.Asked.TheVariants as asked
+use Rattle.board_lines.specs.declared.asked.Name.{Name}
+use Rattle.board_lines.specs.declared.asked.Name.TheVariants as name
+use Rattle.board_lines.specs.declared.asked.Kind.{Kind}
+use Rattle.board_lines.specs.declared.asked.Kind.TheVariants as kind
 
--- the orders, then `new` and `state`
-abbrev pub names : List ℕ
-names = text "advance next reset tifr timsk edge route acout wtifr wtimsk write read peek sleep prr wake new state"
+-- the order of a name
+unfoldable pub named_of : List ℕ → Option Name
+named_of word =
+    cond (bytes_eq word (text "advance")) (Some name.Advance)
+    (cond (bytes_eq word (text "next")) (Some name.Next)
+    (cond (bytes_eq word (text "reset")) (Some name.Reset)
+    (cond (bytes_eq word (text "tifr")) (Some name.Tifr)
+    (cond (bytes_eq word (text "timsk")) (Some name.Timsk)
+    (cond (bytes_eq word (text "edge")) (Some name.Edge)
+    (cond (bytes_eq word (text "route")) (Some name.Route)
+    (cond (bytes_eq word (text "acout")) (Some name.Acout)
+    (cond (bytes_eq word (text "wtifr")) (Some name.Wtifr)
+    (cond (bytes_eq word (text "wtimsk")) (Some name.Wtimsk)
+    (cond (bytes_eq word (text "write")) (Some name.Write)
+    (cond (bytes_eq word (text "read")) (Some name.Read)
+    (cond (bytes_eq word (text "peek")) (Some name.Peek)
+    (cond (bytes_eq word (text "sleep")) (Some name.Sleep)
+    (cond (bytes_eq word (text "prr")) (Some name.Prr)
+    (cond (bytes_eq word (text "wake")) (Some name.Wake) None)))))))))))))))
 
--- how many words follow the name, cycle and size among them: none of `new` and `state`
-unfoldable pub arguments_of : ℕ → ℕ
-arguments_of name =
-    cond (ltb name 5) 3
-    (cond (eqb name 5) 5
-    (cond (ltb name 11) 4
-    (cond (ltb name 15) 3
-    (cond (eqb name 15) 2 0))))
+-- the words that follow a name, before the cycle and the size: "T is a timer's id", a level, a pin or a mode, decimal; a value, and PRR, "the sheet's byte", hexadecimal; an address
+unfoldable pub kinds_of : Name → Option Kind × Option Kind × Option Kind
+kinds_of name.Advance = (Some kind.Timer, None, None)
+kinds_of name.Next = (Some kind.Timer, None, None)
+kinds_of name.Reset = (Some kind.Timer, None, None)
+kinds_of name.Tifr = (Some kind.Timer, None, None)
+kinds_of name.Timsk = (Some kind.Timer, None, None)
+kinds_of name.Edge = (Some kind.Timer, Some kind.Decimal, Some kind.Decimal)
+kinds_of name.Route = (Some kind.Timer, Some kind.Decimal, None)
+kinds_of name.Acout = (Some kind.Timer, Some kind.Decimal, None)
+kinds_of name.Wtifr = (Some kind.Timer, Some kind.Hexadecimal, None)
+kinds_of name.Wtimsk = (Some kind.Timer, Some kind.Hexadecimal, None)
+kinds_of name.Write = (Some kind.Address, Some kind.Hexadecimal, None)
+kinds_of name.Read = (Some kind.Address, None, None)
+kinds_of name.Peek = (Some kind.Address, None, None)
+kinds_of name.Sleep = (Some kind.Decimal, None, None)
+kinds_of name.Prr = (Some kind.Hexadecimal, None, None)
+kinds_of name.Wake = (None, None, None)
 
--- the first: "T is a timer's id, 0 to 2", an address, a mode, or PRR, "the sheet's byte"
-unfoldable pub first_of : List ℕ → Cursor → ℕ → Taken
-first_of line c name =
-    cond (ltb name 10) (next_of line c 10 2)
-    (cond (ltb name 13) (next_of line c 16 65535)
-    (cond (eqb name 13) (next_of line c 10 255)
-    (cond (eqb name 14) (next_of line c 16 255) (nothing_of c))))
-
--- the second: a level or an edge's pin, decimal, or the value of a write, of TIFR and TIMSK too, hexadecimal
-unfoldable pub second_of : List ℕ → Cursor → ℕ → Taken
-second_of line c name = cond (ltb name 5) (nothing_of c) (cond (ltb name 8) (next_of line c 10 255) (cond (ltb name 11) (next_of line c 16 255) (nothing_of c)))
-
--- the third: an edge's level
-unfoldable pub third_of : List ℕ → Cursor → ℕ → Taken
-third_of line c name = cond (eqb name 5) (next_of line c 10 255) (nothing_of c)
-
--- the last two of an order: its cycle, and the size of each area
-unfoldable pub last_of : List ℕ → Cursor → ℕ → ℕ → Taken
-last_of line c name most = cond (ltb name 16) (next_of line c 10 most) (nothing_of c)
+-- the next word, of a kind: a timer's id is "0 to 2"; where there is none it is a 0 that takes no word
+unfoldable pub word_of : List ℕ → ℕ → Option Kind → Result Taken Unreadable
+word_of line at (Some kind.Timer) = next_of line at 10 2
+word_of line at (Some kind.Decimal) = next_of line at 10 255
+word_of line at (Some kind.Hexadecimal) = next_of line at 16 255
+word_of line at (Some kind.Address) = next_of line at 16 65535
+word_of line at None = Ok (record { value = 0; end = at })
 
 -- the id of a number
 unfoldable pub id_of : ℕ → Id
-id_of n = cond (eqb n 0) id.Zero (cond (eqb n 1) id.One id.Two)
+id_of n = cond (n == 0) id.Zero (cond (n == 1) id.One id.Two)
 
--- the order of each name with its words; `new` and `state` order nothing, and have wake's place here
-unfoldable pub order_of : ℕ → ℕ → ℕ → ℕ → Order
-order_of name a b c =
-    cond (eqb name 0) (order.Advance (id_of a))
-    (cond (eqb name 1) (order.Next (id_of a))
-    (cond (eqb name 2) (order.Reset (id_of a))
-    (cond (eqb name 3) (order.Tifr (id_of a))
-    (cond (eqb name 4) (order.Timsk (id_of a))
-    (cond (eqb name 5) (order.Edge (id_of a) (b % 256) (c % 256))
-    (cond (eqb name 6) (order.Route (id_of a) (b % 256))
-    (cond (eqb name 7) (order.Output (id_of a) (b % 256))
-    (cond (eqb name 8) (order.WriteTifr (id_of a) (b % 256))
-    (cond (eqb name 9) (order.WriteTimsk (id_of a) (b % 256))
-    (cond (eqb name 10) (order.Write (a % 65536) (b % 256))
-    (cond (eqb name 11) (order.Read (a % 65536))
-    (cond (eqb name 12) (order.Peek (a % 65536))
-    (cond (eqb name 13) (order.Sleep (a % 256))
-    (cond (eqb name 14) (order.Reduce (a % 256)) order.Wake))))))))))))))
+-- the order of each name with its words
+unfoldable pub order_of : Name → ℕ → ℕ → ℕ → Order
+order_of name.Advance a b c = order.Advance (id_of a)
+order_of name.Next a b c = order.Next (id_of a)
+order_of name.Reset a b c = order.Reset (id_of a)
+order_of name.Tifr a b c = order.Tifr (id_of a)
+order_of name.Timsk a b c = order.Timsk (id_of a)
+order_of name.Edge a b c = order.Edge (id_of a) (b % 256) (c % 256)
+order_of name.Route a b c = order.Route (id_of a) (b % 256)
+order_of name.Acout a b c = order.Output (id_of a) (b % 256)
+order_of name.Wtifr a b c = order.WriteTifr (id_of a) (b % 256)
+order_of name.Wtimsk a b c = order.WriteTimsk (id_of a) (b % 256)
+order_of name.Write a b c = order.Write (a % 65536) (b % 256)
+order_of name.Read a b c = order.Read (a % 65536)
+order_of name.Peek a b c = order.Peek (a % 65536)
+order_of name.Sleep a b c = order.Sleep (a % 256)
+order_of name.Prr a b c = order.Reduce (a % 256)
+order_of name.Wake a b c = order.Wake
 
--- the order, its cycle and the size, of what was read
-abbrev pub ended_of : List ℕ → ℕ → Taken → Taken → Taken → Taken → Asked
-ended_of line name a b c cycle =
-    let size = last_of line cycle.next name 4096 in
-    record { name = name; order = order_of name a.value b.value c.value; cycle = cycle.value; size = size.value; why = size.next.why }
+-- one where there is a word
+abbrev pub words_in : Option Kind → ℕ
+words_in kind = cond (is_some kind) 1 0
 
--- the words from a place on, counted first
-unfoldable pub read_of : List ℕ → ℕ → ℕ → Asked
-read_of line at name =
-    let a = first_of line (exactly_of line at (arguments_of name)) name in
-    let b = second_of line a.next name in
-    let c = third_of line b.next name in
-    ended_of line name a b c (last_of line c.next name (2 ^ 64 - 1))
+-- the words of an order, counted first, with its cycle, and the size of each area
+unfoldable pub call_of : List ℕ → ℕ → Name → Result Asked Unreadable
+call_of line at name =
+    let kinds = kinds_of name in
+    and_then (exactly_of line at (words_in kinds.0 + words_in kinds.1 + words_in kinds.2 + 2)) (λ _.
+    and_then (word_of line at kinds.0) (λ a.
+    and_then (word_of line a.end kinds.1) (λ b.
+    and_then (word_of line b.end kinds.2) (λ c.
+    and_then (next_of line c.end 10 (2 ^ 64 - 1)) (λ cycle.
+    and_then (next_of line cycle.end 10 4096) (λ size.
+    Ok (asked.Call (order_of name a.value b.value c.value) cycle.value size.value)))))))
 
--- nothing, and why
-abbrev pub nothing_asked : ℕ → Asked
-nothing_asked why = record { name = 18; order = order.Wake; cycle = 0; size = 0; why = why }
+-- `new` and `state` have no words
+abbrev pub alone : List ℕ → ℕ → Asked → Result Asked Unreadable
+alone line at q = and_then (exactly_of line at 0) (λ _. Ok q)
 
--- by the order's name: "missing word" is 4, "unknown command" 1
-unfoldable pub asked_of : List ℕ → ℕ → Asked
+-- by the name: "missing word" where there is none, "unknown command" of any other
+unfoldable pub asked_of : List ℕ → ℕ → Result Asked Unreadable
 asked_of line at =
     let start = skip_of line at in
     let end = find_of line start 32 in
-    let name = place_of names (between line start end) in
-    cond (eqb start (length line)) (nothing_asked 4) (cond (ltb name 18) (read_of line end name) (nothing_asked 1))
+    let name = between line start end in
+    cond (start == length line) (Err unreadable.MissingWord)
+    (cond (bytes_eq name (text "new")) (alone line end asked.New)
+    (cond (bytes_eq name (text "state")) (alone line end asked.State)
+    (and_then (ok_or (named_of name) unreadable.UnknownCommand) (call_of line end))))
+
+-- the size of each area, of an order
+abbrev pub size_of : Asked → ℕ
+size_of asked.New = 0
+size_of asked.State = 0
+size_of (asked.Call order cycle size) = size

@@ -1,10 +1,10 @@
 -- What is shown of the board (docs/SCRIPT.md, "The board"): "What is shown of a timer's call, here of Timer0, Timer1 and Timer2 as the line leaves them".
 use Rattle.std.specs.Prelude.{ℕ, List, [], ◌∷◌, ◌++◌}
-use Rattle.std.proofs.Math.Option.{Option, none, some}
+use Rattle.std.specs.Prelude.{Option, Some, None}
 use Rattle.figures.specs.Figures.{text, number}
 use Rattle.page.specs.Page.{pair}
 use Rattle.counter.specs.Next.{next_of}
-use Rattle.scheduler.specs.Scheduler.{held, cycle_of as cycle_in}
+use Rattle.scheduler.specs.Scheduler.{cycle_of as cycle_in}
 use Rattle.scheduler.specs.declared.Scheduler.{Scheduler}
 use Rattle.m328p.specs.declared.Id.{Id}
 use Rattle.m328p.specs.declared.Id.TheVariants as id
@@ -34,15 +34,18 @@ answer_of o areas = said_of o.answer ++ unless_refused o.answer (nexts_of o.boar
 
 -- a label and a cycle, or none
 unfoldable pub held_at : List ℕ → Option ℕ → List ℕ
-held_at label (some cycle) = label ++ number cycle
-held_at label none = label ++ text "none"
+held_at label (Some cycle) = label ++ number cycle
+held_at label None = label ++ text "none"
 
 -- "the cycle that the board's scheduler holds for each id, or none"
 abbrev pub held_of : List ℕ → Scheduler → Id → List ℕ
-held_of label s i = held_at label (cycle_in (key_of i) (held s))
+held_of label s i = held_at label (cycle_in (key_of i) s)
 
--- "board gtccr=VV sched=N,N,N", and "a `state` line for each timer follows"
-unfoldable pub board_of : Board → List ℕ
-board_of b =
+-- "board gtccr=VV sched=N,N,N"
+unfoldable pub plans_of : Board → List ℕ
+plans_of b =
     (text "board gtccr=" ++ pair b.gtccr) ++ held_of (text " sched=") b.scheduler id.Zero ++ held_of (text ",") b.scheduler id.One ++ held_of (text ",") b.scheduler id.Two
-    ++ 10 ∷ [] ++ state_of b.zero ++ 10 ∷ [] ++ state_of b.one ++ 10 ∷ [] ++ state_of b.two
+
+-- and "a `state` line for each timer follows"
+unfoldable pub board_of : Board → List ℕ
+board_of b = plans_of b ++ 10 ∷ [] ++ state_of b.zero ++ 10 ∷ [] ++ state_of b.one ++ 10 ∷ [] ++ state_of b.two

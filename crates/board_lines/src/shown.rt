@@ -3,8 +3,7 @@
 ghost use Rattle.board.specs.Calls.{areas_of};
 ghost use Rattle.board.specs.State.{Valid};
 ghost use Rattle.page.specs.Page.{Puts};
-ghost use Rattle.scheduler.specs.Scheduler.{Valid as Planned};
-ghost use Rattle.board_lines.specs.Shown.{nexts_of, records_of, answer_of, held_of, board_of};
+ghost use Rattle.board_lines.specs.Shown.{nexts_of, records_of, answer_of, held_of, plans_of, board_of};
 
 use answers::Answer;
 use board::outcome::{Outcome, Written};
@@ -12,95 +11,92 @@ use board::state::Board;
 use display::answer::{bytes, cycle, flags, said};
 use display::state::state;
 use m328p::Id;
-use page::{Page, byte, number, register, text};
+use page::Page;
 use plans::key;
-use scheduler::{Scheduled, Scheduler};
+use scheduler::Scheduler;
 
 // Puts the next event of each timer, and the flags that each will raise.
-fn nexts(page: &mut Page, from: usize, b: Board) -> usize
-    requires { Valid b }
-    ensures { Puts page.old from page.new result (nexts_of b) }
+#[tactic(auto, using(page::proofs::Sheets::then), unfolding(crate::specs::Shown::nexts_of, figures::specs::Figures::codes))]
+fn nexts(page: &mut Page, b: &Board)
+    requires { Valid b.now }
+    ensures { Puts page.old page.new (nexts_of b.now) }
 {
     let zero = b.zero.next();
     let one = b.one.next();
     let two = b.two.next();
-    let at = cycle(page, from, b" next=", zero);
-    let at = cycle(page, at, b",", one);
-    let at = cycle(page, at, b",", two);
-    let at = flags(page, at, b" flags=", zero);
-    let at = flags(page, at, b",", one);
-    flags(page, at, b",", two)
+    cycle(page, b" next=", zero);
+    cycle(page, b",", one);
+    cycle(page, b",", two);
+    flags(page, b" flags=", zero);
+    flags(page, b",", one);
+    flags(page, b",", two)
 }
 
 // Puts how many bytes were written in each area, and which.
-fn records(
-    page: &mut Page,
-    from: usize,
-    written: Written,
-    zero: &[u8],
-    one: &[u8],
-    two: &[u8],
-) -> usize
-    ensures { Puts page.old from page.new result (records_of written (areas_of zero.now one.now two.now)) }
+#[tactic(auto, using(page::proofs::Sheets::then), unfolding(crate::specs::Shown::records_of, figures::specs::Figures::codes))]
+fn records(page: &mut Page, written: Written, zero: &[u8], one: &[u8], two: &[u8])
+    ensures { Puts page.old page.new (records_of written (areas_of zero.now one.now two.now)) }
 {
-    let at = number(page, from, b" bytes=", written.zero as u64);
-    let at = number(page, at, b",", written.one as u64);
-    let at = number(page, at, b",", written.two as u64);
-    let at = bytes(page, at, b" records=", zero, written.zero);
-    let at = bytes(page, at, b",", one, written.one);
-    bytes(page, at, b",", two, written.two)
+    page.number(b" bytes=", written.zero as u64);
+    page.number(b",", written.one as u64);
+    page.number(b",", written.two as u64);
+    bytes(page, b" records=", zero, written.zero);
+    bytes(page, b",", one, written.one);
+    bytes(page, b",", two, written.two)
 }
 
 // Puts an order's answer.
-pub fn answer(
-    page: &mut Page,
-    from: usize,
-    o: Outcome,
-    zero: &[u8],
-    one: &[u8],
-    two: &[u8],
-) -> usize
-    requires { Valid o.board }
-    ensures { Puts page.old from page.new result (answer_of o (areas_of zero.now one.now two.now)) }
+pub fn answer(page: &mut Page, o: &Outcome, zero: &[u8], one: &[u8], two: &[u8])
+    requires { Valid o.now.board }
+    ensures { Puts page.old page.new (answer_of o.now (areas_of zero.now one.now two.now)) }
 {
     let answer = o.answer;
-    let at = said(page, from, answer);
-    if let Answer::Refused(n) = answer {
-        return at;
+    said(page, answer);
+    if let Answer::Refused(_) = answer {
+        return;
     }
-    let at = nexts(page, at, o.board);
-    records(page, at, o.written, zero, one, two)
+    nexts(page, &o.board);
+    records(page, o.written, zero, one, two)
 }
 
 // Puts a label and the cycle that the scheduler holds for a timer, `none` where it holds none.
-fn held(page: &mut Page, from: usize, label: &[u8], s: Scheduler, id: Id) -> usize
-    requires { Planned s }
-    ensures { Puts page.old from page.new result (held_of label.now s id) }
+#[tactic(auto, using(page::proofs::Sheets::then), unfolding(crate::specs::Shown::held_at, figures::specs::Figures::codes))]
+fn held(page: &mut Page, label: &[u8], s: Scheduler, id: Id)
+    ensures { Puts page.old page.new (held_of label.now s id) }
 {
-    let scheduled = s.is_scheduled(key(id));
-    match scheduled {
-        Scheduled::At(cycle) => number(page, from, label, cycle),
-        Scheduled::Never => {
-            let at = text(page, from, label);
-            text(page, at, b"none")
+    match s.is_scheduled(key(id)) {
+        Some(cycle) => page.number(label, cycle),
+        None => {
+            page.text(label);
+            page.text(b"none")
         }
     }
 }
 
-// Puts the board as it stands, and on a line of its own each timer.
-pub fn stands(page: &mut Page, from: usize, b: Board) -> usize
-    requires { Valid b }
-    ensures { Puts page.old from page.new result (board_of b) }
+// Puts GTCCR, and the cycles that the scheduler holds.
+#[tactic(auto, using(page::proofs::Sheets::then), unfolding(crate::specs::Shown::plans_of, figures::specs::Figures::codes))]
+fn plans(page: &mut Page, b: &Board)
+    requires { Valid b.now }
+    ensures { Puts page.old page.new (plans_of b.now) }
 {
     let s = b.scheduler;
-    let at = register(page, from, b"board gtccr=", b.gtccr);
-    let at = held(page, at, b" sched=", s, Id::Zero);
-    let at = held(page, at, b",", s, Id::One);
-    let at = held(page, at, b",", s, Id::Two);
-    let at = byte(page, at, b'\n');
-    let at = state(page, at, b.zero);
-    let at = byte(page, at, b'\n');
-    let at = state(page, at, b.one);
-    let at = byte(page, at, b'\n');
-    state(page, at, b.two)
+    page.register(b"board gtccr=", b.gtccr);
+    held(page, b" sched=", s, Id::Zero);
+    held(page, b",", s, Id::One);
+    held(page, b",", s, Id::Two);
+}
+
+// Puts the board as it stands, and on a line of its own each timer.
+#[tactic(auto, using(page::proofs::Sheets::then), unfolding(crate::specs::Shown::board_of))]
+pub fn stands(page: &mut Page, b: &Board)
+    requires { Valid b.now }
+    ensures { Puts page.old page.new (board_of b.now) }
+{
+    plans(page, b);
+    page.byte(b'\n');
+    state(page, b.zero);
+    page.byte(b'\n');
+    state(page, b.one);
+    page.byte(b'\n');
+    state(page, b.two)
 }

@@ -2,329 +2,291 @@
 
 #![tactic(auto)]
 
-ghost use Rattle.std.specs.Prelude.{◌≡◌, ◌<◌, ◌≤◌, cond, eqb, length};
-ghost use Rattle.config_keys.specs.Keys.{absent as absentValue, fine_of, named_of, optional_of, written_of, value_of, no_keys, stopped_of, set_of, occurs, after_of, parts_of, compare_of, with_of, keys_of, whole_of, first_of, over_of, flag_value, unit_value, pin_value, saying_of};
+ghost use Rattle.std.specs.Prelude.{◌≡◌, ◌<◌, take, is_none};
+ghost use Rattle.std.specs.List.{list_any};
+ghost use Rattle.config_keys.specs.Keys.{config_keys, named_of, plain_of, optional_of, written_of, value_of, no_keys, parts_of, compare_of, keys_of, whole_of, over_of, unit_value, pin_value, saying_of, value_at, number_at};
 
 use config::{Config, Wire};
-use words::{
-    EXTRA_WORD, FINE, MALFORMED, MISSING_WORD, Read, UNKNOWN_KEY, UNKNOWN_NAME, find, numeral,
-    place, skip, split, unread,
-};
+use pairs::Keyed;
+use words::{Unreadable, find, numeral, place};
 
-// The value of a unit that is told to be absent, past every number that a word can be.
-pub const ABSENT: u64 = 0x1_0000;
+// A key's value, none where its unit is told to be absent.
+pub type Value = Option<u64>;
 
-// The value of a key that was not given.
-const MISSING: u64 = 0x2_0000;
-
-// A value for each of the 25 keys in the order of their list, then compare C's address, flag, pin and force mask.
+// A value for each of the 25 keys in the order of their list, then compare C's address, flag, pin and force mask; none where it was not given.
 #[derive(Clone, Copy)]
 pub struct Keys {
-    pub values: [u64; 29],
-    pub why: u8,
+    pub values: [Option<Value>; 29],
 }
 
 // A word that is one of so many names, as its place among them.
-fn named(names: &[u8], many: usize, word: &[u8]) -> Read
-    ensures { result ≡ named_of names.now many word.now }
+#[tactic(auto, unfolding(crate::specs::Keys::named_of, words::specs::Words::and_then))]
+fn named(names: &[u8], word: &[u8]) -> Result<Value, Unreadable>
+    ensures { result ≡ named_of names.now word.now }
 {
-    let n = place(names, word);
-    if n < many {
-        Read {
-            value: n as u64,
-            why: FINE,
-        }
-    } else {
-        unread(UNKNOWN_NAME)
-    }
+    let n = place(names, word).ok_or(Unreadable::UnknownName)?;
+    Ok(Some(n as u64))
 }
 
-// A unit that is told to be absent.
-fn absent() -> Read
-    ensures { result ≡ fine_of absentValue }
+// A number.
+#[tactic(auto, unfolding(crate::specs::Keys::plain_of, words::specs::Words::and_then))]
+fn plain(word: &[u8], radix: u64, most: u64) -> Result<Value, Unreadable>
+    ensures { result ≡ plain_of word.now radix most }
 {
-    Read {
-        value: ABSENT,
-        why: FINE,
-    }
+    Ok(Some(numeral(word, radix, most)?))
 }
 
 // A number, or `-` where the unit is absent.
-fn optional(word: &[u8], radix: u64, most: u64) -> Read
+#[tactic(auto, unfolding(crate::specs::Keys::optional_of, figures::specs::Figures::codes))]
+fn optional(word: &[u8], radix: u64, most: u64) -> Result<Value, Unreadable>
     ensures { result ≡ optional_of word.now radix most }
 {
-    if check::same(word, b"-") {
-        absent()
-    } else {
-        numeral(word, radix, most)
+    match word {
+        b"-" => Ok(None),
+        _ => plain(word, radix, most),
     }
 }
 
-// Is a byte a colon, as a number.
-fn colon(b: u8) -> usize
-    ensures { (result ≤ 1) × (result ≡ cond (eqb b 58) 1 0) }
-{
-    if b == b':' { 1 } else { 0 }
+// How a key's value is written.
+#[derive(Clone, Copy)]
+enum Kind {
+    Byte,
+    Bit,
+    Layout,
+    Clock,
+    // An address that is there, or PRR1:PRR0.
+    Address,
+    UnitAddress,
+    Pin,
+    // A mask, a flag or a group.
+    Mask,
 }
 
-// How many colons a word has.
-fn colons(word: &[u8]) -> usize
-    ensures { result ≡ occurs 58 word.now }
-{
-    let mut n = 0;
-    let mut i = 0;
-    while i < word.len() {
-        n += colon(word[i]);
-        i += 1;
-    }
-    n
-}
+use Kind::{Address, Bit, Byte, Clock, Layout, Mask, Pin, UnitAddress};
 
-// The place after another, or the word's end.
-fn after(word: &[u8], at: usize) -> usize
-    ensures { (result ≤ length word.now) × (result ≡ after_of word.now at) }
-{
-    if at < word.len() { at + 1 } else { word.len() }
-}
-
-// How each key's value is written, by its place in the list.
-const KINDS: [u8; 29] = [
-    0, 1, 2, 4, 4, 4, 7, 7, 4, 5, 5, 5, 7, 7, 7, 7, 6, 6, 7, 6, 6, 3, 7, 4, 7, 4, 7, 6, 7,
+// The kinds of the keys, by their places in the list.
+const KINDS: [Kind; 29] = [
+    Byte,
+    Bit,
+    Layout,
+    Address,
+    Address,
+    Address,
+    Mask,
+    Mask,
+    Address,
+    UnitAddress,
+    UnitAddress,
+    UnitAddress,
+    Mask,
+    Mask,
+    Mask,
+    Mask,
+    Pin,
+    Pin,
+    Mask,
+    Pin,
+    Pin,
+    Clock,
+    Mask,
+    Address,
+    Mask,
+    Address,
+    Mask,
+    Pin,
+    Mask,
 ];
 
-// A value of a kind: a decimal byte, a bit, a layout, a clock, an address or PRR, an address or `-`, a pin or `-`, a mask or group.
-fn written(kind: u8, word: &[u8]) -> Read
+// A value of a kind.
+#[tactic(auto, unfolding(crate::specs::Keys::written_of, figures::specs::Figures::codes))]
+fn written(kind: Kind, word: &[u8]) -> Result<Value, Unreadable>
     ensures { result ≡ written_of kind word.now }
 {
     match kind {
-        0 => numeral(word, 10, 0xff),
-        1 => numeral(word, 10, 1),
-        2 => named(b"split single single0", 3, word),
-        3 => named(b"sync t2", 2, word),
-        4 => numeral(word, 16, 0xffff),
-        5 => optional(word, 16, 0xffff),
-        6 => optional(word, 10, 0xff),
-        _ => numeral(word, 16, 0xff),
+        Byte => plain(word, 10, 0xff),
+        Bit => plain(word, 10, 1),
+        Layout => named(b"split single single0", word),
+        Clock => named(b"sync t2", word),
+        Address => plain(word, 16, 0xffff),
+        UnitAddress => optional(word, 16, 0xffff),
+        Pin => optional(word, 10, 0xff),
+        Mask => plain(word, 16, 0xff),
     }
 }
 
-// A key's value, by its place in the list.
-fn value(key: usize, word: &[u8]) -> Read
+// A key's value as it is written, by the key's place in the list.
+fn read(key: usize, word: &[u8]) -> Result<Value, Unreadable>
     requires { key < 29 }
     ensures { result ≡ value_of key word.now }
 {
     written(KINDS[key], word)
 }
 
-// A byte, two bytes and a flag as a key's value.
-fn byte(x: u8) -> u64
-    ensures { result ≡ x }
-{
-    x as u64
-}
-
-fn pair(x: u16) -> u64
-    ensures { result ≡ x }
-{
-    x as u64
-}
-
-fn flag(x: bool) -> u64
-    ensures { result ≡ flag_value x }
-{
-    if x { 1 } else { 0 }
-}
-
 // The value of a unit's key.
-fn unit(present: bool, value: u64) -> u64
+fn unit(present: bool, value: u16) -> Option<Value>
     ensures { result ≡ unit_value present value }
 {
-    if present { value } else { ABSENT }
+    Some(if present { Some(value as u64) } else { None })
 }
 
 // The value of a pin's key.
-fn pin(wire: Wire) -> u64
+fn pin(wire: Wire) -> Option<Value>
     ensures { result ≡ pin_value wire }
 {
-    unit(wire.present, byte(wire.pin))
-}
-
-// A key's value, or another where it was not given.
-fn first(value: u64, other: u64) -> u64
-    ensures { result ≡ first_of value other }
-{
-    if value == MISSING { other } else { value }
+    unit(wire.present, wire.pin as u16)
 }
 
 impl Keys {
-    // The keys that say a configuration; compare C's own key says only whether it is there.
-    pub fn saying(config: Config) -> Keys
-        ensures { result ≡ saying_of config }
-    {
-        let a = config.a;
-        let b = config.b;
-        let c = config.c;
-        let icr = config.icr;
-        let values = [
-            byte(config.id),
-            flag(config.wide),
-            byte(config.layout),
-            pair(config.tccra),
-            pair(config.tccrb),
-            pair(config.foc),
-            byte(a.force),
-            byte(b.force),
-            pair(config.tcnt),
-            unit(a.present, pair(a.address)),
-            unit(b.present, pair(b.address)),
-            unit(icr.present, pair(icr.address)),
-            byte(config.tov),
-            byte(a.flag),
-            byte(b.flag),
-            byte(icr.flag),
-            pin(a.wire),
-            pin(b.wire),
-            unit(c.present, 0),
-            pin(icr.wire),
-            pin(config.t),
-            byte(config.clocks),
-            byte(config.group),
-            pair(config.prr),
-            byte(config.sleeprun),
-            pair(c.address),
-            byte(c.flag),
-            pin(c.wire),
-            byte(c.force),
-        ];
-        Keys { values, why: FINE }
-    }
-
     // Before any key.
     pub fn new() -> Keys
         ensures { result ≡ no_keys }
     {
+        Keys { values: [None; 29] }
+    }
+
+    // The keys that say a configuration; compare C's own key says only whether it is there.
+    #[tactic(auto, unfolding(crate::specs::Keys::saying_of))]
+    pub fn saying(config: Config) -> Keys
+        ensures { result ≡ saying_of config }
+    {
+        let Config { a, b, c, icr, .. } = config;
         Keys {
-            values: [MISSING; 29],
-            why: FINE,
+            values: [
+                Some(Some(config.id as u64)),
+                Some(Some(config.wide as u64)),
+                Some(Some(config.layout as u64)),
+                Some(Some(config.tccra as u64)),
+                Some(Some(config.tccrb as u64)),
+                Some(Some(config.foc as u64)),
+                Some(Some(a.force as u64)),
+                Some(Some(b.force as u64)),
+                Some(Some(config.tcnt as u64)),
+                unit(a.present, a.address),
+                unit(b.present, b.address),
+                unit(icr.present, icr.address),
+                Some(Some(config.tov as u64)),
+                Some(Some(a.flag as u64)),
+                Some(Some(b.flag as u64)),
+                Some(Some(icr.flag as u64)),
+                pin(a.wire),
+                pin(b.wire),
+                unit(c.present, 0),
+                pin(icr.wire),
+                pin(config.t),
+                Some(Some(config.clocks as u64)),
+                Some(Some(config.group as u64)),
+                Some(Some(config.prr as u64)),
+                Some(Some(config.sleeprun as u64)),
+                Some(Some(c.address as u64)),
+                Some(Some(c.flag as u64)),
+                pin(c.wire),
+                Some(Some(c.force as u64)),
+            ],
         }
-    }
-
-    // The keys with one more value, or stopped.
-    fn set(mut self, key: usize, r: Read) -> Keys
-        requires { key < 29 }
-        ensures { result ≡ set_of self key r }
-    {
-        if self.why == FINE {
-            self.values[key] = r.value;
-            self.why = r.why;
-        }
-        self
-    }
-
-    // Stops the reading.
-    pub fn stopped(mut self, why: u8) -> Keys
-        ensures { result ≡ stopped_of self why }
-    {
-        self.why = why;
-        self
     }
 
     // The keys with the parts of compare C.
-    fn parts(self, word: &[u8]) -> Keys
+    #[tactic(auto, using(crate::proofs::Reading::parts_more, crate::proofs::Reading::parts_stopped, crate::proofs::Reading::parts_all))]
+    fn parts(mut self, word: &[u8]) -> Result<Keys, Unreadable>
         ensures { result ≡ parts_of self word.now }
     {
-        let mut keys = self.set(18, unread(FINE));
-        let mut key = 25;
+        self.values[18] = Some(Some(0));
         let mut at = 0;
-        while key < 29 {
+        for key in 25..29 {
             let end = find(word, at, b':');
-            keys = keys.set(key, value(key, &word[at..end]));
-            at = after(word, end);
-            key += 1;
+            self.values[key] = Some(read(key, &word[at..end])?);
+            at = (end + 1).min(word.len());
         }
-        keys
+        Ok(self)
     }
 
     // The keys with compare C, which is OCR:FLAG:PIN:FORCEMASK.
-    fn compare(self, word: &[u8]) -> Keys
+    #[tactic(auto, unfolding(crate::specs::Keys::compare_of, figures::specs::Figures::codes))]
+    fn compare(mut self, word: &[u8]) -> Result<Keys, Unreadable>
         ensures { result ≡ compare_of self word.now }
     {
-        if check::same(word, b"-") {
-            return self.set(18, absent());
+        if word == b"-".as_slice() {
+            self.values[18] = Some(None);
+            return Ok(self);
         }
-        if colons(word) != 3 {
-            return self.stopped(MALFORMED);
+        if word.iter().filter(|b| **b == b':').count() != 3 {
+            return Err(Unreadable::Malformed);
         }
         self.parts(word)
     }
 
-    // The keys with one more KEY=VALUE.
-    fn with(self, word: &[u8]) -> Keys
-        ensures { result ≡ with_of self word.now }
-    {
-        if self.why != FINE {
-            return self;
-        }
-        let p = split(
-            b"id wide layout tccra tccrb foc foca focb tcnt ocra ocrb icr tov ocfa ocfb icf pina pinb c icp t clock group prr sleeprun",
-            word,
-        );
-        let key = p.key;
-        let from = p.value;
-        if 24 < key {
-            return self.stopped(UNKNOWN_KEY);
-        }
-        if self.values[key] != MISSING {
-            return self.stopped(EXTRA_WORD);
-        }
-        if key == 18 {
-            self.compare(&word[from..])
-        } else {
-            self.set(key, value(key, &word[from..]))
-        }
-    }
-
     // The keys of a text from a place on.
-    pub fn of(text: &[u8], from: usize) -> Keys
+    pub fn of(text: &[u8], from: usize) -> Result<Keys, Unreadable>
         ensures { result ≡ keys_of text.now from }
     {
-        let mut keys = Keys::new();
-        let mut at = skip(text, from);
-        while at < text.len() {
-            let end = find(text, at + 1, b' ');
-            keys = keys.with(&text[at..end]);
-            at = skip(text, end);
-        }
-        keys
+        pairs::gathered(Keys::new(), text, from)
     }
 
-    // Stops where a key is missing.
-    pub fn whole(self) -> Keys
+    // Is one of the 25 missing.
+    fn lacking(&self) -> bool
+        ensures { result ≡ list_any is_none (take 25 self.now.values) }
+    {
+        self.values[..25].iter().any(|v| v.is_none())
+    }
+
+    // The keys where none of the 25 is missing.
+    #[tactic(auto, unfolding(crate::specs::Keys::whole_of))]
+    pub fn whole(self) -> Result<Keys, Unreadable>
         ensures { result ≡ whole_of self }
     {
-        if self.why != FINE {
-            return self;
+        if self.lacking() {
+            return Err(Unreadable::MissingWord);
         }
-        let mut key = 0;
-        while key < 25 {
-            if self.values[key] == MISSING {
-                return self.stopped(MISSING_WORD);
-            }
-            key += 1;
+        Ok(self)
+    }
+
+    // The keys with those of another where they have none.
+    #[tactic(auto, using(crate::proofs::Reading::fill_none, crate::proofs::Reading::fill_more, crate::proofs::Reading::fill_all))]
+    pub fn over(mut self, other: Keys) -> Keys
+        ensures { result ≡ over_of self other }
+    {
+        for key in 0..29 {
+            self.values[key] = self.values[key].or(other.values[key]);
         }
         self
     }
 
-    // The keys with those of another where they have none.
-    pub fn over(self, other: Keys) -> Keys
-        ensures { result ≡ over_of self other }
+    // A key's value; a key that was not given says as little as an absent unit's.
+    pub fn value(&self, key: usize) -> Value
+        requires { key < 29 }
+        ensures { result ≡ value_at self.now key }
     {
-        let mut keys = self;
-        let mut key = 0;
-        while key < 29 {
-            keys.values[key] = first(self.values[key], other.values[key]);
-            key += 1;
+        self.values[key].flatten()
+    }
+
+    // A key's number, 0 where it has none.
+    pub fn number(&self, key: usize) -> u64
+        requires { key < 29 }
+        ensures { result ≡ number_at self.now key }
+    {
+        self.value(key).unwrap_or(0)
+    }
+}
+
+impl Keyed for Keys {
+    ghost kept = { config_keys };
+
+    #[tactic(auto, unfolding(figures::specs::Figures::codes))]
+    fn names() -> &'static [u8] {
+        b"id wide layout tccra tccrb foc foca focb tcnt ocra ocrb icr tov ocfa ocfb icf pina pinb c icp t clock group prr sleeprun"
+    }
+
+    #[tactic(auto, using(crate::proofs::Reading::keys_many))]
+    fn given(&self, key: usize) -> bool {
+        self.values[key].is_some()
+    }
+
+    #[tactic(auto, using(crate::proofs::Reading::keys_many), unfolding(crate::specs::Keys::taken_of, words::specs::Words::and_then))]
+    fn taken(mut self, key: usize, word: &[u8]) -> Result<Keys, Unreadable> {
+        if key == 18 {
+            return self.compare(word);
         }
-        keys
+        self.values[key] = Some(read(key, word)?);
+        Ok(self)
     }
 }

@@ -2,49 +2,93 @@
 
 #![tactic(auto)]
 
-ghost use Rattle.std.specs.Prelude.{length};
-ghost use Rattle.digits.specs.Spelling.{Spells, spelt, bytes_of};
+ghost use Rattle.std.specs.Prelude.{ℕ, ◌≡◌, ◌<◌, ◌≤◌, List, [], ◌∷◌, ◌++◌, length, take, IfOk};
+ghost use Rattle.words.specs.Numbers.{numeral_of};
+ghost use Rattle.digits.specs.Spelling.{spelt, bytes_of};
 
-use words::{Cursor, FINE, MALFORMED, Read, TOO_LARGE, find, low8, numeral, skip, unread};
+use std::marker::Model;
+use words::{Unreadable, find, numeral, skip};
 
-// Takes the bytes of a word; yields how many, too large where there is no place for all of them.
-fn taken(word: &[u8], out: &mut [u8]) -> Read
-    ensures { Spells (spelt word.now (length out.old)) out.old out.new result }
-{
-    if word.len() % 2 != 0 {
-        return unread(MALFORMED);
-    }
-    let n = word.len() / 2;
-    if out.len() < n {
-        return unread(TOO_LARGE);
-    }
-    let mut i = 0;
-    while i < n {
-        let from = 2 * i;
-        let r = numeral(&word[from..from + 2], 16, 0xff);
-        if r.why != FINE {
-            return unread(MALFORMED);
-        }
-        out[i] = low8(r.value);
-        i += 1;
-    }
-    Read {
-        value: n as u64,
-        why: FINE,
-    }
+// At most N bytes. A contract sees them, as a list.
+#[derive(Drop)]
+pub struct Bytes<const N: usize> {
+    bytes: [u8; N],
+    len: usize,
 }
 
-// Takes the bytes of the next word, none of `-`.
-pub fn bytes(line: &[u8], c: Cursor, out: &mut [u8]) -> Read
-    ensures { Spells (bytes_of line.now c (length out.old)) out.old out.new result }
+impl<const N: usize> Model for Bytes<N> {
+    ghost Value = { List ℕ };
+
+    ghost view = { λ b. take b.len b.bytes };
+
+    ghost invariant = { λ b. b.len ≤ N };
+}
+
+// The byte of two digits.
+fn byte(pair: &[u8; 2]) -> Result<u8, Unreadable>
+    ensures { result ≡ numeral_of pair.now 16 255 }
 {
-    if c.why != FINE {
-        return unread(c.why);
+    let n = numeral(pair, 16, 0xff)?;
+    Ok(n as u8)
+}
+
+impl<const N: usize> Bytes<N> {
+    // None.
+    fn new() -> Bytes<N>
+        ensures { result ≡ [] }
+    {
+        Bytes {
+            bytes: [0; N],
+            len: 0,
+        }
     }
-    let start = skip(line, c.at);
-    let end = find(line, start, b' ');
-    if check::same(&line[start..end], b"-") {
-        return unread(FINE);
+
+    // One more.
+    fn push(&mut self, b: u8)
+        requires { length self.old < N }
+        ensures { self.new ≡ self.old ++ b ∷ [] }
+    {
+        self.bytes[self.len] = b;
+        self.len += 1;
     }
-    taken(&line[start..end], out)
+
+    // The bytes.
+    pub fn as_slice(&self) -> &[u8]
+        ensures { result.now ≡ self.now }
+    {
+        &self.bytes[..self.len]
+    }
+
+    // The bytes of a word, too large where there is no room for all of them.
+    #[tactic(auto, using(crate::proofs::Pairing::paired_none, crate::proofs::Pairing::paired_more, crate::proofs::Pairing::paired_failed, crate::proofs::Pairing::paired_all), unfolding(crate::specs::Spelling::spelt))]
+    fn spelt(word: &[u8]) -> Result<Bytes<N>, Unreadable>
+        ensures { IfOk result (λ b. length b ≤ N) × (result ≡ spelt word.now N) }
+    {
+        let (pairs, odd) = word.as_chunks::<2>();
+        if !odd.is_empty() {
+            return Err(Unreadable::Malformed);
+        }
+        if N < pairs.len() {
+            return Err(Unreadable::TooLarge);
+        }
+        let mut bytes = Bytes::new();
+        for pair in pairs {
+            bytes.push(byte(pair)?);
+        }
+        Ok(bytes)
+    }
+
+    // The bytes of a line's next word, none of `-`.
+    #[tactic(auto, unfolding(crate::specs::Spelling::bytes_of, crate::specs::Spelling::word_of, figures::specs::Figures::codes))]
+    pub fn of(line: &[u8], at: usize) -> Result<Bytes<N>, Unreadable>
+        ensures { IfOk result (λ b. length b ≤ N) × (result ≡ bytes_of line.now at N) }
+    {
+        let start = skip(line, at);
+        let end = find(line, start, b' ');
+        let word = &line[start..end];
+        if word == b"-".as_slice() {
+            return Ok(Bytes::new());
+        }
+        Bytes::spelt(word)
+    }
 }

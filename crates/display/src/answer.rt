@@ -6,86 +6,87 @@ ghost use Rattle.display.specs.Answers.{bytes_of, records_of, cycle_of, flags_of
 
 use answers::{Answer, Outcome};
 use counter::next::Next;
-use page::{Page, byte, number, register, text, two};
+use page::Page;
 
 // Puts a label and the bytes written, `-` where there are none.
-pub fn bytes(page: &mut Page, from: usize, label: &[u8], area: &[u8], written: usize) -> usize
-    ensures { Puts page.old from page.new result (bytes_of label.now area.now written) }
+#[tactic(auto, using(page::proofs::Sheets::then, crate::proofs::Hexes::hexes_none, crate::proofs::Hexes::hexes_more, crate::proofs::Hexes::bytes_all), unfolding(crate::specs::Answers::bytes_of, figures::specs::Figures::codes))]
+pub fn bytes(page: &mut Page, label: &[u8], area: &[u8], written: usize)
+    ensures { Puts page.old page.new (bytes_of label.now area.now written) }
 {
-    let mut at = text(page, from, label);
+    page.text(label);
     if written == 0 {
-        return byte(page, at, b'-');
+        page.byte(b'-');
+        return;
     }
-    let mut i = 0;
-    while i < area.len() {
-        if written <= i {
-            return at;
-        }
-        at = two(page, at, area[i]);
-        i += 1;
+    for b in &area[..written.min(area.len())] {
+        page.two(*b);
     }
-    at
 }
 
 // Puts how many bytes were written, and which.
-pub fn records(page: &mut Page, from: usize, area: &[u8], written: usize) -> usize
-    ensures { Puts page.old from page.new result (records_of area.now written) }
+#[tactic(auto, using(page::proofs::Sheets::then), unfolding(crate::specs::Answers::records_of, figures::specs::Figures::codes))]
+pub fn records(page: &mut Page, area: &[u8], written: usize)
+    ensures { Puts page.old page.new (records_of area.now written) }
 {
-    let at = number(page, from, b" bytes=", written as u64);
-    bytes(page, at, b" records=", area, written)
+    page.number(b" bytes=", written as u64);
+    bytes(page, b" records=", area, written)
 }
 
 // Puts a label and the cycle of a next event, `none` where there is none.
-pub fn cycle(page: &mut Page, from: usize, label: &[u8], next: Next) -> usize
-    ensures { Puts page.old from page.new result (cycle_of label.now next) }
+#[tactic(auto, using(page::proofs::Sheets::then), unfolding(crate::specs::Answers::cycle_of, figures::specs::Figures::codes))]
+pub fn cycle(page: &mut Page, label: &[u8], next: Next)
+    ensures { Puts page.old page.new (cycle_of label.now next) }
 {
     match next {
-        Next::At(cycle, flags) => number(page, from, label, cycle.0),
+        Next::At(cycle, flags) => page.number(label, cycle.0),
         Next::Never => {
-            let at = text(page, from, label);
-            text(page, at, b"none")
+            page.text(label);
+            page.text(b"none")
         }
     }
 }
 
 // Puts a label and the flags that the tick of a next event will raise, `-` where there is none.
-pub fn flags(page: &mut Page, from: usize, label: &[u8], next: Next) -> usize
-    ensures { Puts page.old from page.new result (flags_of label.now next) }
+#[tactic(auto, using(page::proofs::Sheets::then), unfolding(crate::specs::Answers::flags_of, figures::specs::Figures::codes))]
+pub fn flags(page: &mut Page, label: &[u8], next: Next)
+    ensures { Puts page.old page.new (flags_of label.now next) }
 {
     match next {
-        Next::At(cycle, flags) => register(page, from, label, flags),
+        Next::At(cycle, flags) => page.register(label, flags),
         Next::Never => {
-            let at = text(page, from, label);
-            byte(page, at, b'-')
+            page.text(label);
+            page.byte(b'-')
         }
     }
 }
 
 // Puts a refusal, the cycle where an advance paused, or the value.
-pub fn said(page: &mut Page, from: usize, answer: Answer) -> usize
-    ensures { Puts page.old from page.new result (said_of answer) }
+#[tactic(auto, using(page::proofs::Sheets::then), unfolding(crate::specs::Answers::said_of, figures::specs::Figures::codes))]
+pub fn said(page: &mut Page, answer: Answer)
+    ensures { Puts page.old page.new (said_of answer) }
 {
     match answer {
-        Answer::Refused(n) => number(page, from, b"refused ", n as u64),
-        Answer::Value(value) => register(page, from, b"ok value=", value),
-        Answer::Paused(cycle, flags) => number(page, from, b"paused cycle=", cycle.0),
-        _ => text(page, from, b"ok value=-"),
+        Answer::Refused(n) => page.number(b"refused ", n as u64),
+        Answer::Value(value) => page.register(b"ok value=", value),
+        Answer::Paused(cycle, flags) => page.number(b"paused cycle=", cycle.0),
+        _ => page.text(b"ok value=-"),
     }
 }
 
 // Puts a call's answer: of one that is accepted also the next event of the timer that it leaves, and the bytes written.
-pub fn answer(page: &mut Page, from: usize, o: Outcome, area: &[u8]) -> usize
+#[tactic(auto, using(page::proofs::Sheets::then), unfolding(crate::specs::Answers::answer_of, figures::specs::Figures::codes))]
+pub fn answer(page: &mut Page, o: Outcome, area: &[u8])
     requires { Valid o.timer }
-    ensures { Puts page.old from page.new result (answer_of o area.now) }
+    ensures { Puts page.old page.new (answer_of o area.now) }
 {
     let answer = o.answer;
-    let at = said(page, from, answer);
+    said(page, answer);
     if let Answer::Refused(n) = answer {
-        return at;
+        return;
     }
     let t = o.timer;
     let next = t.next();
-    let at = cycle(page, at, b" next=", next);
-    let at = flags(page, at, b" flags=", next);
-    records(page, at, area, o.written)
+    cycle(page, b" next=", next);
+    flags(page, b" flags=", next);
+    records(page, area, o.written)
 }

@@ -1,14 +1,12 @@
 -- Door rule one and door rule two (02, 2.13).
-use Rattle.std.specs.Prelude.{ℕ, ◌+◌, ◌-◌, ◌≤◌, ◌<◌, ◌^◌, min, Bool, true, false, cond, not, ◌&&◌, ◌||◌, ◌≡◌, leb, ltb, eqb}
-use Rattle.time.specs.Units.{late_at}
+use Rattle.std.specs.Prelude.{ℕ, ◌+◌, ◌-◌, ◌≤◌, ◌<◌, ◌^◌, min, Bool, true, cond, ◌&&◌, Option, None, Some, option_map, IfSome, Result, Ok, Err, ⊤, ◌≡◌, leb, ltb}
+use Rattle.time.specs.declared.units.Cycle.{Cycle}
 use Rattle.door.specs.declared.Rule.{Rule}
 use Rattle.door.specs.declared.Rule.TheVariants.{One, Two}
+use Rattle.door.specs.declared.Hold.{Hold}
 use Rattle.door.specs.declared.Door.{Door}
-use Rattle.door.specs.declared.Set.{Set}
-use Rattle.door.specs.declared.Set.TheVariants.{Refused, Made}
-use Rattle.door.specs.declared.Edged.{Edged}
-use Rattle.door.specs.declared.Due.{Due}
-use Rattle.door.specs.declared.Due.TheVariants.{At, Nothing}
+use Rattle.door.specs.declared.Refusal.{Refusal}
+use Rattle.door.specs.declared.Refusal.TheVariants as refusal
 
 -- a number of cycles that is not zero and not over 2^40
 abbrev pub in_range : ℕ → Bool
@@ -31,107 +29,105 @@ due_under (Two hold quiet cap) first rearmed = min (rearmed + hold) (first + cap
 
 -- "setting a rule starts with no edge, latest cycle 0 and nothing due"
 abbrev pub idle : Rule → Door
-idle rule = record {
-  rule = rule;
-  holding = false;
-  first = record { 0 = 0 };
-  rearmed = record { 0 = 0 };
-  due = record { 0 = 0 };
-  latest = record { 0 = 0 };
-}
+idle rule = record { rule = rule; hold = None; latest = record { 0 = 0 } }
 
 -- a hold by its first edge and the one that rearms it, the latest
 abbrev pub held_from : Rule → ℕ → ℕ → Door
 held_from rule first rearmed = record {
   rule = rule;
-  holding = true;
-  first = record { 0 = first };
-  rearmed = record { 0 = rearmed };
-  due = record { 0 = due_under rule first rearmed };
+  hold = Some (record {
+    first = record { 0 = first };
+    rearmed = record { 0 = rearmed };
+    due = record { 0 = due_under rule first rearmed };
+  });
   latest = record { 0 = rearmed };
 }
 
 -- an edge that does not rearm
 abbrev pub passed_at : Door → ℕ → Door
-passed_at d cycle = record {
-  rule = d.rule;
-  holding = d.holding;
-  first = d.first;
-  rearmed = d.rearmed;
-  due = d.due;
-  latest = record { 0 = cycle };
-}
+passed_at d cycle = record { rule = d.rule; hold = d.hold; latest = record { 0 = cycle } }
 
 -- "the very first edge, and one at or after due, begins a new hold"
-abbrev pub begins : Door → ℕ → Bool
-begins d cycle = not d.holding || leb d.due.0 cycle
+abbrev pub begins : Option Hold → ℕ → Bool
+begins None cycle = true
+begins (Some hold) cycle = leb hold.due.0 cycle
+
+-- an accepted edge after a hold, where there is one
+abbrev pub edge_after : Door → Option Hold → ℕ → Door
+edge_after d None cycle = held_from d.rule cycle cycle
+edge_after d (Some hold) cycle =
+    cond (begins (Some hold) cycle) (held_from d.rule cycle cycle)
+    (cond (rearms d.rule (cycle - hold.rearmed.0)) (held_from d.rule hold.first.0 cycle)
+    (passed_at d cycle))
 
 -- the door after an accepted edge
 unfoldable pub edge_taken : Door → ℕ → Door
-edge_taken d cycle =
-    cond (begins d cycle) (held_from d.rule cycle cycle)
-    (cond (rearms d.rule (cycle - d.rearmed.0)) (held_from d.rule d.first.0 cycle)
-    (passed_at d cycle))
+edge_taken d cycle = edge_after d d.hold cycle
 
--- a rule set, or refused with 22: "a refusal returns its number only" (01, "Calls turned away")
-unfoldable pub set_to : Rule → Set
-set_to rule = cond (accepted rule) (Made (idle rule)) (Refused 22)
+-- the refusals' numbers (01, "Calls turned away")
+abbrev pub refusal_number : Refusal → ℕ
+refusal_number refusal.CycleTooLarge = 2
+refusal_number refusal.CyclePassed = 3
+refusal_number refusal.Rule = 22
 
--- the number that setting a rule answers; 0 for none
-abbrev pub number_of : Set → ℕ
-number_of (Refused n) = n
-number_of (Made d) = 0
+-- the number that a call answers; 0 for none
+abbrev pub number_of : {A : Type 0} → Result A Refusal → ℕ
+number_of (Ok x) = 0
+number_of (Err e) = refusal_number e
 
--- 01's cycle refusals (01, "Calls turned away"), 2 over 2^62 − 1 and 3 below the latest accepted; 0 for none
-unfoldable pub late : Door → ℕ → ℕ
-late d cycle = late_at d.latest.0 cycle
+-- a rule set, or refused: "a refusal returns its number only" (01, "Calls turned away")
+unfoldable pub set_to : Rule → Result Door Refusal
+set_to rule = cond (accepted rule) (Ok (idle rule)) (Err refusal.Rule)
 
--- an edge taken, or refused with its number and the door as it was
-unfoldable pub edged : Door → ℕ → Edged
-edged d cycle = record { number = late d cycle; door = cond (eqb (late d cycle) 0) (edge_taken d cycle) d }
+-- 01's cycle refusals (01, "Calls turned away"): over 2^62 − 1, and below the latest accepted
+unfoldable pub on_time : Door → ℕ → Result ⊤ Refusal
+on_time d cycle = cond (ltb (2 ^ 62 - 1) cycle) (Err refusal.CycleTooLarge) (cond (ltb cycle d.latest.0) (Err refusal.CyclePassed) (Ok tt))
 
--- when the close is due: at a cycle, or not at all while there is no hold
-pub data Close : Type 0 where
-  due_at : ℕ → Close
-  nothing_due : Close
+-- the door after an edge that is on time, or the edge's refusal
+abbrev pub edged_on : Result ⊤ Refusal → Door → Result Door Refusal
+edged_on (Ok x) after = Ok after
+edged_on (Err e) after = Err e
 
--- when the close of a door is due
-abbrev pub close_of : Door → Close
-close_of d = cond d.holding (due_at d.due.0) nothing_due
+-- an edge taken, or refused
+unfoldable pub edged : Door → ℕ → Result Door Refusal
+edged d cycle = edged_on (on_time d cycle) (edge_taken d cycle)
+
+-- when the close of a door is due: at a cycle, or not at all while there is no hold
+abbrev pub close_of : Door → Option ℕ
+close_of d = option_map (λ (hold : Hold). hold.due.0) d.hold
 
 -- the number of each case of `due`'s answer: 02 has no refusal for it
-abbrev pub due_number : Due → ℕ
-due_number (At cycle) = 0
-due_number Nothing = 0
+abbrev pub due_number : Option Cycle → ℕ
+due_number (Some cycle) = 0
+due_number None = 0
 
 -- the values of each case of `due`'s answer
-abbrev pub due_values : Due → Close
-due_values (At cycle) = due_at cycle.0
-due_values Nothing = nothing_due
+abbrev pub due_values : Option Cycle → Option ℕ
+due_values (Some cycle) = Some cycle.0
+due_values None = None
 
 -- the answer that values say
-abbrev pub due_of : Close → Due
-due_of (due_at cycle) = At (record { 0 = cycle })
-due_of nothing_due = Nothing
+abbrev pub due_of : Option ℕ → Option Cycle
+due_of (Some cycle) = Some (record { 0 = cycle })
+due_of None = None
 
 -- DueDetermined: the values determine the answer, its case too
 abbrev pub DueDetermined : Type 0
-DueDetermined = (r : Due) → due_of (due_values r) ≡ r
+DueDetermined = (r : Option Cycle) → due_of (due_values r) ≡ r
 
 -- the code's answer says when the close of a door is due, and is no refusal
-pub record DueAnswers (d : Door) (r : Due) : Type 0 where
+pub record DueAnswers (d : Door) (r : Option Cycle) : Type 0 where
   pub number : due_number r ≡ 0
   pub values : due_values r ≡ close_of d
+
+-- what the calls keep of a hold
+pub record HoldOf (d : Door) (hold : Hold) : Type 0 where
+  pub first : hold.first.0 ≤ hold.rearmed.0
+  pub rearmed : hold.rearmed.0 ≤ d.latest.0
+  pub due : hold.due.0 ≡ due_under d.rule hold.first.0 hold.rearmed.0
 
 -- what the calls keep of a door
 pub record Valid (d : Door) : Type 0 where
   pub rule : accepted d.rule ≡ true
-  pub first : d.first.0 ≤ d.rearmed.0
-  pub rearmed : d.rearmed.0 ≤ d.latest.0
   pub latest : d.latest.0 < 2 ^ 62
-  pub due : d.holding ≡ true → d.due.0 ≡ due_under d.rule d.first.0 d.rearmed.0
-
--- a door that is handed out is as the calls ask it
-abbrev pub SetValid : Set → Type 0
-SetValid (Refused n) = Unit {0}
-SetValid (Made d) = Valid d
+  pub hold : IfSome d.hold (HoldOf d)

@@ -2,8 +2,8 @@
 
 #![tactic(auto)]
 
-ghost use Rattle.std.specs.Prelude.{◌≤◌, ◌<◌, ◌^◌, min, true, ◌≡◌};
-ghost use Rattle.door.specs.Door.{in_range, accepted, rearms, due_under, idle, held_from, begins, edge_taken, set_to, edged, DueAnswers, Valid, SetValid};
+ghost use Rattle.std.specs.Prelude.{◌≤◌, ◌<◌, ◌^◌, true, ◌≡◌, IfOk};
+ghost use Rattle.door.specs.Door.{in_range, accepted, rearms, due_under, idle, held_from, edge_taken, refusal_number, set_to, on_time, edged, DueAnswers, Valid};
 
 use time::units::Cycle;
 
@@ -17,78 +17,80 @@ pub enum Rule {
     Two { hold: u64, quiet: u64, cap: u64 },
 }
 
-// The rule, whether there is a hold, its first and its last rearming edge, when its close is due, and the latest accepted cycle.
+// A hold: its first and its last rearming edge, and when its close is due.
 #[derive(Clone, Copy)]
-pub struct Door {
-    pub rule: Rule,
-    pub holding: bool,
+pub struct Hold {
     pub first: Cycle,
     pub rearmed: Cycle,
     pub due: Cycle,
+}
+
+// The rule, the hold that the edges began, and the latest accepted cycle.
+#[derive(Clone, Copy)]
+pub struct Door {
+    pub rule: Rule,
+    pub hold: Option<Hold>,
     pub latest: Cycle,
 }
 
-// What `set` answers: the number 22 alone, or a door.
-#[derive(Clone, Copy)]
-pub enum Set {
-    Refused(u8),
-    Made(Door),
+// Why a rule or an edge is refused.
+#[derive(Clone, Copy, PartialEq, Eq)]
+pub enum Refusal {
+    // The cycle is over 2^62 - 1.
+    CycleTooLarge,
+    // The cycle is below the latest accepted.
+    CyclePassed,
+    // A number of the rule is out of range, or its cap below its hold.
+    Rule,
 }
 
-// What `edge` answers: 0, or 2 or 3 beside the door as it was.
-#[derive(Clone, Copy)]
-pub struct Edged {
-    pub number: u8,
-    pub door: Door,
-}
-
-// What `due` answers.
-#[derive(Clone, Copy)]
-pub enum Due {
-    At(Cycle),
-    Nothing,
+impl Refusal {
+    // Its number in answers.
+    pub fn number(self) -> u8
+        ensures { result ≡ refusal_number self }
+    {
+        match self {
+            Refusal::CycleTooLarge => 2,
+            Refusal::CyclePassed => 3,
+            Refusal::Rule => 22,
+        }
+    }
 }
 
 impl Rule {
     // Is every number in range, and the cap no shorter than the hold.
+    #[tactic(auto, unfolding(crate::specs::Door::accepted))]
     fn accepted(self) -> bool
         ensures { result ≡ accepted self }
     {
         match self {
             Rule::One { hold } => in_range(hold),
-            Rule::Two { hold, quiet, cap } => in_range(hold)
-                & in_range(quiet)
-                & in_range(cap)
-                & (hold <= cap),
+            Rule::Two { hold, quiet, cap } => {
+                in_range(hold) && in_range(quiet) && in_range(cap) && (hold <= cap)
+            }
         }
     }
 
     // Does an edge rearm so many cycles after the last rearming one.
+    #[tactic(auto, unfolding(crate::specs::Door::rearms))]
     fn rearms(self, since: u64) -> bool
         ensures { result ≡ rearms self since }
     {
         match self {
-            Rule::One { hold: _ } => true,
-            Rule::Two {
-                hold: _,
-                quiet,
-                cap: _,
-            } => quiet <= since,
+            Rule::One { .. } => true,
+            Rule::Two { quiet, .. } => quiet <= since,
         }
     }
 
     // When the close of a hold is due, by its first and its last rearming edge.
+    #[tactic(auto, unfolding(crate::specs::Door::accepted, crate::specs::Door::due_under))]
     fn due(self, first: Cycle, rearmed: Cycle) -> Cycle
         requires { (accepted self ≡ true) × (first.0 ≤ rearmed.0) × (rearmed.0 < 2 ^ 62) }
         ensures { result.0 ≡ due_under self first.0 rearmed.0 }
     {
         match self {
             Rule::One { hold } => Cycle(rearmed.0 + hold),
-            Rule::Two {
-                hold,
-                quiet: _,
-                cap,
-            } => Cycle(earlier(rearmed.0 + hold, first.0 + cap)),
+            Rule::Two { hold, cap, .. } => Cycle((rearmed.0 + hold).min(first.0 + cap)),
         }
     }
 }
@@ -100,94 +102,90 @@ impl Door {
     {
         Door {
             rule,
-            holding: false,
-            first: Cycle(0),
-            rearmed: Cycle(0),
-            due: Cycle(0),
+            hold: None,
             latest: Cycle(0),
         }
     }
 
-    // A hold by its first edge and the one that rearms it now.
+    // A door held by its first edge and the one that rearms it now.
     fn held(rule: Rule, first: Cycle, rearmed: Cycle) -> Door
         requires { (accepted rule ≡ true) × (first.0 ≤ rearmed.0) × (rearmed.0 < 2 ^ 62) }
-        ensures { result ≡ held_from rule first.0 rearmed.0 }
+        ensures held { result ≡ held_from rule first.0 rearmed.0 }
+        ensures valid { Valid result }
     {
         let due = rule.due(first, rearmed);
         Door {
             rule,
-            holding: true,
-            first,
-            rearmed,
-            due,
+            hold: Some(Hold {
+                first,
+                rearmed,
+                due,
+            }),
             latest: rearmed,
         }
     }
 
-    // Does an edge begin a new hold: the very first, or one at or after due.
-    fn begins(self, cycle: Cycle) -> bool
-        ensures { result ≡ begins self cycle.0 }
+    // Whether a cycle is too large, or below the latest accepted.
+    #[tactic(auto, unfolding(crate::specs::Door::on_time))]
+    fn on_time(self, cycle: Cycle) -> Result<(), Refusal>
+        ensures { result ≡ on_time self cycle.0 }
     {
-        let due = self.due;
-        !self.holding | (due.0 <= cycle.0)
+        match cycle.refusal(self.latest) {
+            0 => Ok(()),
+            2 => Err(Refusal::CycleTooLarge),
+            _ => Err(Refusal::CyclePassed),
+        }
     }
 
     // The door after an accepted edge.
+    #[tactic(auto, unfolding(crate::specs::Door::edge_taken))]
     fn taken(self, cycle: Cycle) -> Door
         requires { Valid self × (self.latest.0 ≤ cycle.0) × (cycle.0 < 2 ^ 62) }
-        ensures { result ≡ edge_taken self cycle.0 }
+        ensures taken { result ≡ edge_taken self cycle.0 }
+        ensures valid { Valid result }
     {
         let rule = self.rule;
-        let first = self.first;
-        let rearmed = self.rearmed;
-        if self.begins(cycle) {
-            return Door::held(rule, cycle, cycle);
+        match self.hold {
+            None => Door::held(rule, cycle, cycle),
+            Some(hold) if hold.due.0 <= cycle.0 => Door::held(rule, cycle, cycle),
+            Some(hold) if rule.rearms(cycle.0 - hold.rearmed.0) => {
+                Door::held(rule, hold.first, cycle)
+            }
+            Some(_) => Door {
+                latest: cycle,
+                ..self
+            },
         }
-        if rule.rearms(cycle.0 - rearmed.0) {
-            return Door::held(rule, first, cycle);
-        }
-        let mut door = self;
-        door.latest = cycle;
-        door
     }
 
     // Sets a rule: no edge, latest cycle 0 and nothing due.
-    pub fn set(rule: Rule) -> Set
-        ensures { (result ≡ set_to rule) × SetValid result }
+    #[tactic(auto, unfolding(crate::specs::Door::set_to))]
+    pub fn set(rule: Rule) -> Result<Door, Refusal>
+        ensures set { result ≡ set_to rule }
+        ensures valid { IfOk result Valid }
     {
-        let door = Door::idle(rule);
-        if rule.accepted() {
-            return Set::Made(door);
+        if !rule.accepted() {
+            return Err(Refusal::Rule);
         }
-        Set::Refused(22)
+        Ok(Door::idle(rule))
     }
 
-    // Takes a contact edge. A refused one changes nothing.
-    pub fn edge(self, cycle: Cycle) -> Edged
+    // The door after a contact edge. A refused one changes nothing: the caller keeps the door that it has.
+    #[tactic(auto, unfolding(crate::specs::Door::edged, crate::specs::Door::on_time))]
+    pub fn edge(self, cycle: Cycle) -> Result<Door, Refusal>
         requires { Valid self }
-        ensures { (result ≡ edged self cycle.0) × Valid result.door }
+        ensures edged { result ≡ edged self cycle.0 }
+        ensures valid { IfOk result Valid }
     {
-        let latest = self.latest;
-        let number = cycle.refusal(latest);
-        if number != 0 {
-            return Edged { number, door: self };
-        }
-        Edged {
-            number: 0,
-            door: self.taken(cycle),
-        }
+        self.on_time(cycle)?;
+        Ok(self.taken(cycle))
     }
 
-    // When the close is due.
-    pub fn due(self) -> Due
+    // When the close is due, where there is a hold.
+    pub fn due(self) -> Option<Cycle>
         ensures { DueAnswers self result }
     {
-        let close = self.due;
-        if self.holding {
-            Due::At(close)
-        } else {
-            Due::Nothing
-        }
+        self.hold.map(|hold| hold.due)
     }
 }
 
@@ -195,12 +193,5 @@ impl Door {
 fn in_range(cycles: u64) -> bool
     ensures { result ≡ in_range cycles }
 {
-    (0 < cycles) & (cycles <= LONGEST)
-}
-
-// The earlier of two cycles.
-fn earlier(a: u64, b: u64) -> u64
-    ensures { result ≡ min a b }
-{
-    if b < a { b } else { a }
+    (0 < cycles) && (cycles <= LONGEST)
 }

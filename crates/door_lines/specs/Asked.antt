@@ -1,31 +1,50 @@
--- What a door's line asks for (docs/SCRIPT.md, "The door and the log"): `door one HOLD`, `door two HOLD QUIET CAP`, `door edge CYCLE`.
-use Rattle.std.specs.Prelude.{ℕ, ◌-◌, ◌^◌, cond, List, eqb}
-use Rattle.words.specs.Words.{exactly_of}
-use Rattle.words.specs.Numbers.{next_of, nothing_of}
-use Rattle.words.specs.declared.Cursor.{Cursor}
+-- What a door's line asks for (docs/SCRIPT.md, "The door and the log"): `door one HOLD`, `door two HOLD QUIET CAP`, `door edge CYCLE`. The words are counted first.
+use Rattle.std.specs.Prelude.{ℕ, ◌-◌, ◌^◌, cond, List, ◌==◌, length, Result, Ok, Err}
+use Rattle.std.specs.Str.{bytes_eq}
+use Rattle.figures.specs.Figures.{text}
+use Rattle.words.specs.Words.{exactly_of, skip_of, find_of, and_then}
+use Rattle.words.specs.Numbers.{between, next_of}
 use Rattle.words.specs.declared.Taken.{Taken}
-use Rattle.door.specs.declared.Rule.{Rule}
-use Rattle.door.specs.declared.Rule.TheVariants.{One, Two}
+use Rattle.words.specs.declared.Unreadable.{Unreadable}
+use Rattle.words.specs.declared.Unreadable.TheVariants as unreadable
+use Rattle.door.specs.declared.Rule.TheVariants as rule
 use Rattle.door_lines.specs.declared.asked.Asked.{Asked}
+use Rattle.door_lines.specs.declared.asked.Asked.TheVariants as asked
 
--- three words of rule two, else one
-unfoldable pub arguments_of : ℕ → ℕ
-arguments_of name = cond (eqb name 1) 3 1
+-- the next word, a number of cycles: "64 bits for cycles"
+abbrev pub cycles_of : List ℕ → ℕ → Result Taken Unreadable
+cycles_of line at = next_of line at 10 (2 ^ 64 - 1)
 
--- a number that rule two alone has
-unfoldable pub more_of : List ℕ → Cursor → ℕ → Taken
-more_of line c name = cond (eqb name 1) (next_of line c 10 (2 ^ 64 - 1)) (nothing_of c)
+-- "one HOLD"
+unfoldable pub one_of : List ℕ → ℕ → Result Asked Unreadable
+one_of line at =
+    and_then (exactly_of line at 1) (λ _.
+    and_then (cycles_of line at) (λ hold.
+    Ok (asked.Rule (rule.One hold.value))))
 
-abbrev pub ended_of : ℕ → Taken → Taken → Taken → Asked
-ended_of name first quiet cap = record { name = name; first = first.value; quiet = quiet.value; cap = cap.value; why = cap.next.why }
+-- "two HOLD QUIET CAP"
+unfoldable pub two_of : List ℕ → ℕ → Result Asked Unreadable
+two_of line at =
+    and_then (exactly_of line at 3) (λ _.
+    and_then (cycles_of line at) (λ hold.
+    and_then (cycles_of line hold.end) (λ quiet.
+    and_then (cycles_of line quiet.end) (λ cap.
+    Ok (asked.Rule (rule.Two hold.value quiet.value cap.value))))))
 
--- the words from a place on, counted first
-unfoldable pub asked_of : List ℕ → ℕ → ℕ → Asked
-asked_of line at name =
-    let first = next_of line (exactly_of line at (arguments_of name)) 10 (2 ^ 64 - 1) in
-    let quiet = more_of line first.next name in
-    ended_of name first quiet (more_of line quiet.next name)
+-- "edge CYCLE"
+unfoldable pub edge_of : List ℕ → ℕ → Result Asked Unreadable
+edge_of line at =
+    and_then (exactly_of line at 1) (λ _.
+    and_then (cycles_of line at) (λ cycle.
+    Ok (asked.Edge (record { 0 = cycle.value }))))
 
--- the rule that a line sets
-unfoldable pub rule_of : Asked → Rule
-rule_of q = cond (eqb q.name 0) (One q.first) (Two q.first q.quiet q.cap)
+-- by the name: "missing word" where there is none, "unknown command" of any other
+unfoldable pub asked_of : List ℕ → ℕ → Result Asked Unreadable
+asked_of line at =
+    let start = skip_of line at in
+    let end = find_of line start 32 in
+    let name = between line start end in
+    cond (start == length line) (Err unreadable.MissingWord)
+    (cond (bytes_eq name (text "one")) (one_of line end)
+    (cond (bytes_eq name (text "two")) (two_of line end)
+    (cond (bytes_eq name (text "edge")) (edge_of line end) (Err unreadable.UnknownCommand))))

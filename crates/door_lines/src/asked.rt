@@ -1,72 +1,71 @@
 // What a door's line asks for.
 
 ghost use Rattle.std.specs.Prelude.{◌≡◌};
-ghost use Rattle.door_lines.specs.Asked.{arguments_of, more_of, asked_of, rule_of};
+ghost use Rattle.door_lines.specs.Asked.{one_of, two_of, edge_of, asked_of};
 
 use door::Rule;
-use words::{Cursor, Taken, decimal, exactly, none};
+use time::units::Cycle;
+use words::{Unreadable, decimal, exactly, find, skip};
 
-// A line by its place among the names, with its words: a hold or an edge's cycle, and of rule two the quiet time and the cap.
+// A rule to set, or an edge at a cycle.
 #[derive(Clone, Copy)]
-pub struct Asked {
-    pub name: usize,
-    pub first: u64,
-    pub quiet: u64,
-    pub cap: u64,
-    pub why: u8,
+pub enum Asked {
+    Rule(Rule),
+    Edge(Cycle),
 }
 
-// How many words a line has.
-fn arguments(name: usize) -> usize
-    ensures { result ≡ arguments_of name }
+// Rule one: its hold.
+#[tactic(auto, unfolding(crate::specs::Asked::one_of, words::specs::Words::and_then))]
+fn one(line: &[u8], at: usize) -> Result<Asked, Unreadable>
+    ensures { result ≡ one_of line.now at }
 {
-    match name {
-        1 => 3,
-        _ => 1,
-    }
+    exactly(line, at, 1)?;
+    let hold = decimal(line, at, u64::MAX)?;
+    Ok(Asked::Rule(Rule::One { hold: hold.value }))
 }
 
-// A number that rule two alone has.
-fn more(line: &[u8], c: Cursor, name: usize) -> Taken
-    ensures { result ≡ more_of line.now c name }
+// Rule two: its hold, its quiet time and its cap.
+#[tactic(auto, unfolding(crate::specs::Asked::two_of, words::specs::Words::and_then))]
+fn two(line: &[u8], at: usize) -> Result<Asked, Unreadable>
+    ensures { result ≡ two_of line.now at }
 {
-    match name {
-        1 => decimal(line, c, u64::MAX),
-        _ => none(c),
-    }
+    exactly(line, at, 3)?;
+    let hold = decimal(line, at, u64::MAX)?;
+    let quiet = decimal(line, hold.end, u64::MAX)?;
+    let cap = decimal(line, quiet.end, u64::MAX)?;
+    Ok(Asked::Rule(Rule::Two {
+        hold: hold.value,
+        quiet: quiet.value,
+        cap: cap.value,
+    }))
+}
+
+// An edge: its cycle.
+#[tactic(auto, unfolding(crate::specs::Asked::edge_of, words::specs::Words::and_then))]
+fn edge(line: &[u8], at: usize) -> Result<Asked, Unreadable>
+    ensures { result ≡ edge_of line.now at }
+{
+    exactly(line, at, 1)?;
+    let cycle = decimal(line, at, u64::MAX)?;
+    Ok(Asked::Edge(Cycle(cycle.value)))
 }
 
 impl Asked {
-    // What follows the name.
-    pub fn of(line: &[u8], at: usize, name: usize) -> Asked
-        ensures { result ≡ asked_of line.now at name }
+    // What a line asks for, from the place after `door`.
+    #[tactic(auto, unfolding(crate::specs::Asked::asked_of, figures::specs::Figures::codes))]
+    pub fn of(line: &[u8], at: usize) -> Result<Asked, Unreadable>
+        ensures { result ≡ asked_of line.now at }
     {
-        let start = exactly(line, at, arguments(name));
-        let first = decimal(line, start, u64::MAX);
-        let quiet = more(line, first.next, name);
-        let cap = more(line, quiet.next, name);
-        let end = cap.next;
-        Asked {
-            name,
-            first: first.value,
-            quiet: quiet.value,
-            cap: cap.value,
-            why: end.why,
+        let start = skip(line, at);
+        if start == line.len() {
+            return Err(Unreadable::MissingWord);
         }
-    }
-
-    // The rule that a line sets.
-    pub fn rule(self) -> Rule
-        ensures { result ≡ rule_of self }
-    {
-        let name = self.name;
-        match name {
-            0 => Rule::One { hold: self.first },
-            _ => Rule::Two {
-                hold: self.first,
-                quiet: self.quiet,
-                cap: self.cap,
-            },
+        let end = find(line, start, b' ');
+        match &line[start..end] {
+            b"one" => one(line, end),
+            b"two" => two(line, end),
+            b"edge" => edge(line, end),
+            _ => Err(Unreadable::UnknownCommand),
         }
     }
 }

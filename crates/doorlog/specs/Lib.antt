@@ -1,2 +1,3 @@
 pub mod Doors
 pub mod Dumps
+pub mod Rings

@@ -2,11 +2,13 @@
 
 ghost use Rattle.std.specs.Prelude.{◌≡◌};
 ghost use Rattle.door.specs.declared.Rule.{Rule};
-ghost use Rattle.door.specs.Door.{set_to, edged, Valid};
-ghost use Rattle.doorlog.specs.Doors.{rule_of, terms_of, door_of, kept_of, answer_of, least, made_of, taken_of};
+ghost use Rattle.door.specs.Door.{set_to, edged, due_values, Valid};
+ghost use Rattle.doorlog.specs.Doors.{rule_of, terms_of, door_of, kept_of, told_of, made_of, taken_of};
 
-use door::{Door, Due, Rule, Set};
+use door::{Door, Hold, Rule};
 use time::units::Cycle;
+
+// C lays out the three structs that follow, so a rule, a hold and a refusal are flags and numbers in them.
 
 // A rule in cycles. Rule one has a hold alone: its quiet and its cap are 0.
 #[repr(C)]
@@ -40,134 +42,121 @@ pub struct Told {
     pub door: Kept,
 }
 
-// Yields the rule of its terms.
-fn rule_of(terms: Terms) -> Rule
-    ensures { result ≡ rule_of terms }
-{
-    if terms.two {
-        Rule::Two {
-            hold: terms.hold,
-            quiet: terms.quiet,
-            cap: terms.cap,
+// What is told of a hold where there is none.
+const NO_HOLD: Hold = Hold {
+    first: Cycle(0),
+    rearmed: Cycle(0),
+    due: Cycle(0),
+};
+
+// The door beside a refused rule: rule one with the shortest hold, and no edge.
+const LEAST: Kept = Kept {
+    terms: Terms {
+        two: false,
+        hold: 1,
+        quiet: 0,
+        cap: 0,
+    },
+    holding: false,
+    first: Cycle(0),
+    rearmed: Cycle(0),
+    due: Cycle(0),
+    latest: Cycle(0),
+};
+
+impl From<Terms> for Rule {
+    ghost from_gives = { λ terms rule. rule ≡ rule_of terms };
+
+    fn from(terms: Terms) -> Rule {
+        if terms.two {
+            Rule::Two {
+                hold: terms.hold,
+                quiet: terms.quiet,
+                cap: terms.cap,
+            }
+        } else {
+            Rule::One { hold: terms.hold }
         }
-    } else {
-        Rule::One { hold: terms.hold }
     }
 }
 
-// Yields the terms of a rule.
-fn terms_of(rule: Rule) -> Terms
-    ensures { result ≡ terms_of rule }
-{
-    match rule {
-        Rule::One { hold } => Terms {
-            two: false,
-            hold,
-            quiet: 0,
-            cap: 0,
-        },
-        Rule::Two { hold, quiet, cap } => Terms {
-            two: true,
-            hold,
-            quiet,
-            cap,
-        },
+impl From<Rule> for Terms {
+    ghost from_gives = { λ rule terms. terms ≡ terms_of rule };
+
+    fn from(rule: Rule) -> Terms {
+        match rule {
+            Rule::One { hold } => Terms {
+                two: false,
+                hold,
+                quiet: 0,
+                cap: 0,
+            },
+            Rule::Two { hold, quiet, cap } => Terms {
+                two: true,
+                hold,
+                quiet,
+                cap,
+            },
+        }
     }
 }
 
-// Yields the door that a caller kept.
-fn door_of(kept: Kept) -> Door
-    ensures { result ≡ door_of kept }
-{
-    let rule = rule_of(kept.terms);
-    let first = kept.first;
-    let rearmed = kept.rearmed;
-    let due = kept.due;
-    let latest = kept.latest;
-    Door {
-        rule,
-        holding: kept.holding,
-        first,
-        rearmed,
-        due,
-        latest,
+impl From<Kept> for Door {
+    ghost from_gives = { λ kept door. door ≡ door_of kept };
+
+    fn from(kept: Kept) -> Door {
+        let hold = Hold {
+            first: kept.first,
+            rearmed: kept.rearmed,
+            due: kept.due,
+        };
+        Door {
+            rule: Rule::from(kept.terms),
+            hold: kept.holding.then_some(hold),
+            latest: kept.latest,
+        }
     }
 }
 
-// Yields a door as the caller keeps it.
-fn kept_of(door: Door) -> Kept
-    ensures { result ≡ kept_of door }
-{
-    let rule = door.rule;
-    let terms = terms_of(rule);
-    let first = door.first;
-    let rearmed = door.rearmed;
-    let due = door.due;
-    let latest = door.latest;
-    Kept {
-        terms,
-        holding: door.holding,
-        first,
-        rearmed,
-        due,
-        latest,
+impl From<Door> for Kept {
+    ghost from_gives = { λ door kept. (kept ≡ kept_of door) × (door_of kept ≡ door) };
+
+    fn from(door: Door) -> Kept {
+        let hold = door.hold.unwrap_or(NO_HOLD);
+        Kept {
+            terms: Terms::from(door.rule),
+            holding: door.hold.is_some(),
+            first: hold.first,
+            rearmed: hold.rearmed,
+            due: hold.due,
+            latest: door.latest,
+        }
     }
 }
 
-// Yields a number and a door, with when its close is due.
-fn answer(number: u8, door: Door) -> Told
-    ensures { result ≡ answer_of number door }
-{
-    let kept = kept_of(door);
-    let close = door.due();
-    match close {
-        Due::At(cycle) => Told {
+impl Told {
+    // A number and when a close is due, beside the door to be kept.
+    fn new(number: u8, close: Option<Cycle>, door: Kept) -> Told
+        ensures { result ≡ told_of number (due_values close) door }
+    {
+        Told {
             number,
-            pending: true,
-            due: cycle.0,
-            door: kept,
-        },
-        Due::Nothing => Told {
-            number,
-            pending: false,
-            due: 0,
-            door: kept,
-        },
-    }
-}
-
-// Yields the door beside a refused rule: rule one with the shortest hold, and no edge.
-fn least() -> Kept
-    ensures { result ≡ least }
-{
-    Kept {
-        terms: Terms {
-            two: false,
-            hold: 1,
-            quiet: 0,
-            cap: 0,
-        },
-        holding: false,
-        first: Cycle(0),
-        rearmed: Cycle(0),
-        due: Cycle(0),
-        latest: Cycle(0),
+            pending: close.is_some(),
+            due: close.map_or(0, |cycle| cycle.0),
+            door,
+        }
     }
 }
 
 // Sets a rule, with no edge yet.
+#[tactic(auto, unfolding(door::specs::Door::accepted))]
 fn set(rule: Rule) -> Told
-    ensures { (result ≡ made_of (set_to rule)) × Valid (door_of result.door) }
+    ensures told { result ≡ made_of (set_to rule) }
+    ensures valid { Valid (door_of result.door) }
 {
-    let made = Door::set(rule);
-    match made {
-        Set::Made(door) => answer(0, door),
-        Set::Refused(number) => Told {
-            number,
-            pending: false,
-            due: 0,
-            door: least(),
-        },
+    match Door::set(rule) {
+        Ok(door) => Told::new(0, door.due(), Kept::from(door)),
+        Err(refusal) => Told::new(refusal.number(), None, LEAST),
     }
 }
 
@@ -191,9 +180,18 @@ pub extern "C" fn paddlemauve_door_two(hold: u64, quiet: u64, cap: u64) -> Told
 #[unsafe(no_mangle)]
 pub extern "C" fn paddlemauve_door_edge(door: Kept, cycle: u64) -> Told
     requires { Valid (door_of door) }
-    ensures { (result ≡ taken_of (edged (door_of door) cycle)) × Valid (door_of result.door) }
+    ensures told { result ≡ taken_of door (edged (door_of door) cycle) }
+    ensures valid { Valid (door_of result.door) }
 {
-    let edged = door_of(door).edge(Cycle(cycle));
-    let after = edged.door;
-    answer(edged.number, after)
+    let before = Door::from(door);
+    match before.edge(Cycle(cycle)) {
+        Ok(after) => Told::new(0, after.due(), Kept::from(after)),
+        Err(refusal) => {
+            let kept = Kept {
+                terms: Terms::from(before.rule),
+                ..door
+            };
+            Told::new(refusal.number(), before.due(), kept)
+        }
+    }
 }

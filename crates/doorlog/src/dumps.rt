@@ -1,10 +1,10 @@
 // The dump of a log for a waveform viewer.
 
 ghost use Rattle.std.specs.Prelude.{◌≡◌};
-ghost use Rattle.dump.specs.Answers.{number_of, values_of, dump_outcome};
+ghost use Rattle.dump.specs.Answers.{dump_outcome};
 ghost use Rattle.doorlog.specs.Dumps.{numbers_of, Dumps};
 
-use dump::{Answer, dump};
+use dump::{DumpError, dump};
 
 // number is the refusal's, 0 for none; short is whether the area is too short. written counts the area's bytes, none of a refused or a short call.
 #[repr(C)]
@@ -16,25 +16,29 @@ pub struct Dumped {
 }
 
 // Yields an answer in numbers.
-fn numbers(answer: Answer) -> Dumped
-    ensures { result ≡ numbers_of (number_of answer) (values_of answer) }
-{
-    match answer {
-        Answer::Written(n) => Dumped {
+impl From<Result<usize, DumpError>> for Dumped {
+    ghost from_gives = { λ answer dumped. dumped ≡ numbers_of answer };
+
+    fn from(answer: Result<usize, DumpError>) -> Dumped {
+        let none = Dumped {
             number: 0,
             short: false,
-            written: n as u64,
-        },
-        Answer::Refused(number) => Dumped {
-            number,
-            short: false,
             written: 0,
-        },
-        Answer::Short => Dumped {
-            number: 0,
-            short: true,
-            written: 0,
-        },
+        };
+        match answer {
+            Ok(written) => Dumped {
+                written: written as u64,
+                ..none
+            },
+            Err(DumpError::Refused(fault)) => Dumped {
+                number: fault.number(),
+                ..none
+            },
+            Err(DumpError::Short) => Dumped {
+                short: true,
+                ..none
+            },
+        }
     }
 }
 
@@ -43,5 +47,5 @@ fn numbers(answer: Answer) -> Dumped
 pub extern "C" fn paddlemauve_dump(log: &[u8], out: &mut [u8]) -> Dumped
     ensures { Dumps (dump_outcome log.now out.old) result out.new }
 {
-    numbers(dump(log, out))
+    dump(log, out).into()
 }

@@ -1,11 +1,12 @@
 -- The claims of specs/Claims.antt.
-use Prim.Native.Nat.{ℕ, zero, suc, ◌+◌, ◌*◌, ◌-◌, ◌/◌, ◌%◌, ◌≤◌, ◌<◌, ◌^◌}
+use Prim.Native.Nat.{ℕ, zero, suc, ◌+◌, ◌*◌, ◌-◌, ◌/◌, ◌%◌, ◌≤◌, ◌<◌}
 use native.Mathlib.Omega.{arith}
 use native.Mathlib.Decide.{dec_le}
 use native.Mathlib.Nat.{not-suc-le-zero}
 use mathlib.Core.Path.{◌≡◌, refl, sym, ap, ◌∙◌}
 use mathlib.Core.Bool.{Bool, true, false, cond, ◌&&◌}
 use mathlib.Core.List.{List, [], ◌∷◌, ◌++◌, append_assoc, append-nil}
+use Rattle.std.specs.Prelude.{Option, None, Some}
 use lib.Dec.{eqb, ltb}
 use lib.ListN.{length, get_or}
 use lib.Seq.{append_snoc}
@@ -15,13 +16,13 @@ use Rattle.pieces.specs.Pieces.{wholes, part_after, Bytes, joined}
 use Rattle.pieces.proofs.Cuts.{part-append, wholes-append}
 use Rattle.pieces.proofs.Claims.{of-a-log}
 use Rattle.verdict.specs.Changes.{Change, state_of, change_in, changes_in, changes_of, changes, has}
-use Rattle.verdict.specs.Refusal.{formed, before, refused_at, first_refusal, refusal_of}
+use Rattle.verdict.specs.Refusal.{formed, before, first_fault, refused_at, first_refusal, refusal_of}
 use Rattle.verdict.specs.Check.{fresh, pins_in}
 use Rattle.verdict.specs.Claims.{checked_all}
 use Rattle.verdict.proofs.Claims.{changes-append, changes-in, by-pieces}
 use Rattle.dump.specs.declared.writer.Writer.{Writer}
 use Rattle.figures.specs.Figures.{codes, text, digits, decimal}
-use Rattle.dump.specs.Dump.{var_line, var_lines, no_cycle, time_line, value_line, change_lines, header, dump_of}
+use Rattle.dump.specs.Dump.{var_line, var_lines, time_line, value_line, change_lines, header, dump_of}
 use Rattle.dump.specs.Pieces.{vars_of, header_of, begun, written_by, after}
 use Rattle.dump.specs.Claims.{written_all, passes, ByPieces, lines_in, number_in, read_lines, read_back, ReadsBack, Example}
 use Rattle.dump.proofs.Lines.{lines-append, last-append}
@@ -121,14 +122,14 @@ header_read time cs rest =
 
 -- ---- the lines that change
 
--- a cycle of 62 bits, and no state that begins a line of another kind
+-- no state that begins a line of another kind
 abbrev Proper : List Change → Type 0
 Proper [] = Unit {0}
-Proper (c ∷ cs) = (c.cycle < 2 ^ 62) × (48 ≤ c.state) × Proper cs
+Proper (c ∷ cs) = (48 ≤ c.state) × Proper cs
 
 proper-append : (cs ds : List Change) → Proper cs → Proper ds → Proper (cs ++ ds)
 proper-append [] ds p q = q
-proper-append (c ∷ cs) ds p q = (p.0, p.1, proper-append cs ds p.2 q)
+proper-append (c ∷ cs) ds p q = (p.0, proper-append cs ds p.1 q)
 
 state-least : (body : ℕ) → 48 ≤ state_of body
 unfolding state_of
@@ -138,16 +139,12 @@ state-least body = go (eqb (body / 128 % 2) 1)
     go true = omega arith
     go false = omega arith
 
-cycle-below : (r : List ℕ) → cycle_in r < 2 ^ 62
-unfolding cycle_in
-cycle-below r = omega arith
-
 proper-change : (r : List ℕ) → Proper (change_in r)
 unfolding change_in
 proper-change r = go (eqb (kind_in r) 0)
   where
     go : (t : Bool) → Proper (cond t (record { pin = body_in r / 256; cycle = cycle_in r; state = state_of (body_in r) } ∷ []) [])
-    go true = (cycle-below r, state-least (body_in r), tt)
+    go true = (state-least (body_in r), tt)
     go false = tt
 
 proper-changes : (log : List ℕ) (n : ℕ) → Proper (changes_in log n)
@@ -173,23 +170,36 @@ nothing_read : (time : ℕ) → read_lines time (lines_in [] []) ≡ []
 unfolding read_lines lines_in
 nothing_read time = refl
 
-changes-read : (time last : ℕ) (cs : List Change) → Proper cs → (last < 2 ^ 62 → time ≡ 62500 * last) → read_lines time (lines_in [] (change_lines last cs)) ≡ cs
+-- the time is that of the last cycle written, if any
+abbrev IsTimeOf : ℕ → Option ℕ → Type 0
+IsTimeOf time None = Unit {0}
+IsTimeOf time (Some cycle) = time ≡ 62500 * cycle
+
+changes-read : (time : ℕ) (last : Option ℕ) (cs : List Change) → Proper cs → IsTimeOf time last → read_lines time (lines_in [] (change_lines last cs)) ≡ cs
 unfolding change_lines time_line
 changes-read time last [] p h = nothing_read time
 changes-read time last (c ∷ cs) p h =
-    ap (λ (l : List ℕ). read_lines time (lines_in [] l)) (append_assoc (time_line last c.cycle) (value_line c) (change_lines c.cycle cs))
-    ∙ go (eqb c.cycle last) refl (λ t e. changes-read t c.cycle cs p.2 (λ q. e))
+    ap (λ (l : List ℕ). read_lines time (lines_in [] l)) (append_assoc (time_line last c.cycle) (value_line c) (change_lines (Some c.cycle) cs))
+    ∙ go last h (λ t e. changes-read t (Some c.cycle) cs p.1 e)
   where
-    go : (b : Bool) → eqb c.cycle last ≡ b → ((t : ℕ) → t ≡ 62500 * c.cycle → read_lines t (lines_in [] (change_lines c.cycle cs)) ≡ cs)
-        → read_lines time (lines_in [] (time_line last c.cycle ++ (value_line c ++ change_lines c.cycle cs))) ≡ c ∷ cs
-    go true e rest =
-        let s = eqb-true c.cycle last e in
-        let u = h (omega (arith, p.0)) in
-        rw e (value_read time c (change_lines c.cycle cs) p.1 (omega arith) ∙ ap (λ (l : List Change). c ∷ l) (rest time (omega arith)))
-    go false e rest =
-        rw e (time-read time c.cycle (value_line c ++ change_lines c.cycle cs)
-        ∙ value_read (62500 * c.cycle) c (change_lines c.cycle cs) p.1 (omega arith)
-        ∙ ap (λ (l : List Change). c ∷ l) (rest (62500 * c.cycle) refl))
+    Rest : Type 0
+    Rest = (t : ℕ) → t ≡ 62500 * c.cycle → read_lines t (lines_in [] (change_lines (Some c.cycle) cs)) ≡ cs
+
+    new : Rest → read_lines time (lines_in [] (text "#" ++ decimal (62500 * c.cycle) ++ text "\n" ++ (value_line c ++ change_lines (Some c.cycle) cs))) ≡ c ∷ cs
+    new rest =
+        time-read time c.cycle (value_line c ++ change_lines (Some c.cycle) cs)
+        ∙ value_read (62500 * c.cycle) c (change_lines (Some c.cycle) cs) p.0 (omega arith)
+        ∙ ap (λ (l : List Change). c ∷ l) (rest (62500 * c.cycle) refl)
+
+    go : (last : Option ℕ) → IsTimeOf time last → Rest → read_lines time (lines_in [] (time_line last c.cycle ++ (value_line c ++ change_lines (Some c.cycle) cs))) ≡ c ∷ cs
+    go None h rest = new rest
+    go (Some cycle) h rest = same (eqb cycle c.cycle) refl
+      where
+        same : (b : Bool) → eqb cycle c.cycle ≡ b → read_lines time (lines_in [] (time_line (Some cycle) c.cycle ++ (value_line c ++ change_lines (Some c.cycle) cs))) ≡ c ∷ cs
+        same true e =
+            let s = eqb-true cycle c.cycle e in
+            rw e (value_read time c (change_lines (Some c.cycle) cs) p.0 (omega arith) ∙ ap (λ (l : List Change). c ∷ l) (rest time (omega arith)))
+        same false e = rw e (new rest)
 
 -- ---- any cut
 
@@ -214,9 +224,9 @@ unfolding written_all joined
 written_all-joined w [] = sym (nothing_written w)
 written_all-joined w (piece ∷ pieces) = ap (λ (x : List ℕ). written_by w piece ++ x) (written_all-joined (after w piece) pieces) ∙ sym (written-append w piece (joined pieces))
 
-pub written-log : (log : List ℕ) → Bytes log → written_by begun log ≡ change_lines no_cycle (changes_of log)
+pub written-log : (log : List ℕ) → Bytes log → written_by begun log ≡ change_lines None (changes_of log)
 unfolding written_by
-written-log log k = ap (λ (x : List _). change_lines no_cycle (changes x)) (of-a-log log k).0 ∙ ap (change_lines no_cycle) (changes-in log (length log / 10))
+written-log log k = ap (λ (x : List _). change_lines None (changes x)) (of-a-log log k).0 ∙ ap (change_lines None) (changes-in log (length log / 10))
 
 -- the header of pins that are those of the changes
 vars-are : (pins : List Bool) (cs : List Change) (n : ℕ) → ((pin : ℕ) → pin < n → get_or pins pin false ≡ has pin cs) → vars_of pins n ≡ var_lines cs n
@@ -239,12 +249,12 @@ dump-by-pieces first second e k =
 dump-read : (log : List ℕ) → read_back (dump_of log) ≡ changes_of log
 unfolding read_back dump_of
 dump-read log =
-    header_read 0 (changes_of log) (change_lines no_cycle (changes_of log))
-    ∙ changes-read 0 no_cycle (changes_of log) (proper-changes log (length log / 10)) (λ q. absurd (omega arith))
+    header_read 0 (changes_of log) (change_lines None (changes_of log))
+    ∙ changes-read 0 None (changes_of log) (proper-changes log (length log / 10)) tt
 
 pub reads-back : ReadsBack
 reads-back first second e k = ap read_back (dump-by-pieces first second e k) ∙ dump-read (joined first)
 
 pub example : Example
-unfolding dump_of header codes var_line var_lines has time_line value_line change_lines changes_in change_in record_at state_of digits decimal kind_in cycle_in body_in number_of formed before refused_at first_refusal refusal_of
+unfolding dump_of header codes var_line var_lines has time_line value_line change_lines changes_in change_in record_at state_of digits decimal kind_in cycle_in body_in number_of formed before first_fault refused_at first_refusal refusal_of
 example = record { accepted = refl; dump = refl }

@@ -1,38 +1,50 @@
 -- Laws of the lines of changes.
-use Prim.Native.Nat.{ℕ, ◌+◌, ◌*◌}
-use native.Mathlib.Omega.{arith}
-use mathlib.Core.Path.{◌≡◌, refl, ap, ◌∙◌}
-use mathlib.Core.Bool.{Bool, true, false, cond}
+use Prim.Native.Nat.{ℕ}
+use mathlib.Core.Path.{◌≡◌, refl}
 use mathlib.Core.List.{List, [], ◌∷◌, ◌++◌, append_assoc}
-use lib.ListN.{length}
 use Rattle.pieces.specs.declared.Whole.{Whole}
-use Rattle.pieces.specs.Pieces.{ahead}
+use Rattle.std.specs.Prelude.{Option, Some}
 use Rattle.verdict.specs.Changes.{Change, change_of, changes}
+use Rattle.pieces.specs.declared.Records.{Records}
+use Rattle.pieces.specs.Pieces.{wholes, TakesOne, TakesRest}
+use Rattle.dump.specs.declared.writer.Writer.{Writer}
+use Rattle.dump.specs.Pieces.{written_by, after}
 use Rattle.dump.specs.Dump.{change_lines, last_cycle}
 
-pub lines-append : (last : ℕ) (cs ds : List Change) → change_lines last (cs ++ ds) ≡ change_lines last cs ++ change_lines (last_cycle last cs) ds
+pub lines-append : (last : Option ℕ) (cs ds : List Change) → change_lines last (cs ++ ds) ≡ change_lines last cs ++ change_lines (last_cycle last cs) ds
 unfolding change_lines last_cycle
 lines-append last [] ds = refl
-lines-append last (c ∷ cs) ds = rw (lines-append c.cycle cs ds) (simp append_assoc)
+lines-append last (c ∷ cs) ds = rw (lines-append (Some c.cycle) cs ds) (simp append_assoc)
 
-pub last-append : (last : ℕ) (cs ds : List Change) → last_cycle last (cs ++ ds) ≡ last_cycle (last_cycle last cs) ds
+pub last-append : (last : Option ℕ) (cs ds : List Change) → last_cycle last (cs ++ ds) ≡ last_cycle (last_cycle last cs) ds
 unfolding last_cycle
 last-append last [] ds = refl
-last-append last (c ∷ cs) ds = last-append c.cycle cs ds
+last-append last (c ∷ cs) ds = last-append (Some c.cycle) cs ds
 
--- one record, where there is one
-pub changes-ahead : (t : Bool) (w : Whole) (ws : List Whole) → changes (ahead t w ws) ≡ cond t (change_of w) [] ++ changes ws
-unfolding changes
-changes-ahead true w ws = refl
-changes-ahead false w ws = refl
+-- ---- a call for the next record
 
-pub lines-ahead : (last : ℕ) (t : Bool) (w : Whole) (ws : List Whole) → change_lines last (changes (ahead t w ws)) ≡ change_lines last (cond t (change_of w) []) ++ change_lines (last_cycle last (cond t (change_of w) [])) (changes ws)
-lines-ahead last t w ws = ap (change_lines last) (changes-ahead t w ws) ∙ lines-append last (cond t (change_of w) []) (changes ws)
+-- the lines of what is left of a piece
+abbrev pub left : Records → Option ℕ → List ℕ
+left r last = written_by (record { part = r.part; last = last }) r.rest.now
 
-pub last-ahead : (last : ℕ) (t : Bool) (w : Whole) (ws : List Whole) → last_cycle last (changes (ahead t w ws)) ≡ last_cycle (last_cycle last (cond t (change_of w) [])) (changes ws)
-last-ahead last t w ws = ap (last_cycle last) (changes-ahead t w ws) ∙ last-append last (cond t (change_of w) []) (changes ws)
+-- and what is kept after it
+abbrev pub kept : Records → Option ℕ → Writer
+kept r last = after (record { part = r.part; last = last }) r.rest.now
 
--- so it is with the room that they take
-pub room-ahead : (t : Bool) (w : Whole) (ws : List Whole) → 32 * length (ahead t w ws) ≡ cond t 32 0 + 32 * length ws
-room-ahead true w ws = omega arith
-room-ahead false w ws = omega arith
+module _ {r t : Records} {w : Whole} (one : TakesOne r w t) (last : Option ℕ) where
+  pub left-one : left r last ≡ change_lines last (change_of w) ++ left t (last_cycle last (change_of w))
+  unfolding written_by changes
+  left-one = rw one.wholes (lines-append last (change_of w) (changes (wholes t.part t.rest.now)))
+
+  pub kept-one : kept r last ≡ kept t (last_cycle last (change_of w))
+  unfolding after changes
+  kept-one = rw (one.wholes, one.part, last-append last (change_of w) (changes (wholes t.part t.rest.now)))
+
+module _ {r t : Records} (rest : TakesRest r t) (last : Option ℕ) where
+  pub left-none : left r last ≡ []
+  unfolding written_by changes change_lines
+  left-none = rw rest.wholes
+
+  pub kept-none : kept r last ≡ record { part = t.part; last = last }
+  unfolding after changes last_cycle
+  kept-none = rw (rest.wholes, rest.part)

@@ -9,12 +9,15 @@ use Rattle.figures.proofs.Writing.{decimal-more, decimal-length}
 use Rattle.dump.specs.Dump.{five}
 
 -- so has a pin three at most
-pub pin-length : (n : ℕ) → n < 256 → length (decimal n) ≤ 3
-pin-length n h = decimal-length 2 n (omega arith)
+pub pin_length : (n : ℕ) → n < 256 → length (decimal n) ≤ 3
+pin_length n h = decimal-length 2 n (omega arith)
 
 -- and a time 24
-pub time-length : (n : ℕ) → n < 2 ^ 62 → length (decimal (62500 * n)) ≤ 24
-time-length n h = decimal-length 23 (62500 * n) (omega arith)
+pub time_length : (n : ℕ) → n < 2 ^ 62 → length (decimal (62500 * n)) ≤ 24
+time_length n h = decimal-length 23 (62500 * n) (omega arith)
+
+-- so lines are as long as they may be
+pub ruleset pin_widths = (pin_length, length-append)
 
 -- one digit, and those before it
 decimal_step : (n m d : ℕ) → 10 ≤ n → n / 10 ≡ m → n % 10 ≡ d → decimal n ≡ decimal m ++ (48 + d) ∷ []
@@ -31,10 +34,10 @@ decimal-five q r h =
     ∙ simp append_assoc
 
 -- a time's last five digits go round with the cycle's last three bits
-pub time-five : (n : ℕ) → 2 ≤ n → decimal (62500 * n) ≡ decimal (n / 8 * 5 + n % 8 * 5 / 8) ++ five (n % 8 * 62500)
-time-five n h =
+pub time_five : (n : ℕ) → 2 ≤ n → decimal (62500 * n) ≡ decimal (n / 8 * 5 + n % 8 * 5 / 8) ++ five (n % 8 * 62500)
+time_five n h =
     let e : 62500 * n ≡ (n / 8 * 5 + n % 8 * 5 / 8) * 100000 + n % 8 * 62500 % 100000 = omega arith in
     ap decimal e ∙ decimal-five (n / 8 * 5 + n % 8 * 5 / 8) (n % 8 * 62500) (omega arith)
 
-pub time-five-length : (n : ℕ) → 2 ≤ n → length (decimal (62500 * n)) ≡ length (decimal (n / 8 * 5 + n % 8 * 5 / 8)) + 5
-time-five-length n h = ap length (time-five n h) ∙ length-append (decimal (n / 8 * 5 + n % 8 * 5 / 8)) (five (n % 8 * 62500))
+pub time_five_length : (n : ℕ) → 2 ≤ n → length (decimal (62500 * n)) ≡ length (decimal (n / 8 * 5 + n % 8 * 5 / 8)) + 5
+time_five_length n h = ap length (time_five n h) ∙ length-append (decimal (n / 8 * 5 + n % 8 * 5 / 8)) (five (n % 8 * 62500))

@@ -1,5 +1,5 @@
 -- What is proved of the dump beside the functions: over any cut it is the dump of the whole log, the changes can be read back from its bytes, and the example of 02 is met.
-use Rattle.std.specs.Prelude.{ℕ, ◌+◌, ◌*◌, ◌-◌, ◌/◌, ◌≡◌, cond, List, [], ◌∷◌, ◌++◌, eqb, drop}
+use Rattle.std.specs.Prelude.{ℕ, ◌+◌, ◌*◌, ◌-◌, ◌/◌, ◌≡◌, cond, List, [], ◌∷◌, ◌++◌, eqb, drop, None}
 use Rattle.pieces.specs.Pieces.{Bytes, joined}
 use Rattle.verdict.specs.Changes.{Change, changes_of}
 use Rattle.verdict.specs.Refusal.{refusal_of}
@@ -25,8 +25,8 @@ ByPieces = (first second : List (List ℕ)) → joined first ≡ joined second �
 
 -- the lines of a text, each ended by a line feed, after the bytes of one that has begun
 unfoldable pub lines_in : List ℕ → List ℕ → List (List ℕ)
-lines_in begun [] = []
-lines_in begun (b ∷ bs) = cond (eqb b 10) (begun ∷ lines_in [] bs) (lines_in (begun ++ b ∷ []) bs)
+lines_in line [] = []
+lines_in line (b ∷ bs) = cond (eqb b 10) (line ∷ lines_in [] bs) (lines_in (line ++ b ∷ []) bs)
 
 -- the number that decimal digits make, after those that make n
 unfoldable pub number_in : ℕ → List ℕ → ℕ
@@ -55,5 +55,5 @@ abbrev pub example_log : List ℕ
 example_log = 0x00 ∷ 0x00 ∷ 0x00 ∷ 0x00 ∷ 0x00 ∷ 0x00 ∷ 0x00 ∷ 0x02 ∷ 0x05 ∷ 0xC0 ∷ []
 
 pub record Example : Type 0 where
-  pub accepted : refusal_of example_log ≡ 0
+  pub accepted : refusal_of example_log ≡ None
   pub dump : dump_of example_log ≡ text "$timescale 1 ps $end\n$var wire 1 p5 p5 $end\n$enddefinitions $end\n#125000\n1p5\n"

@@ -1,5 +1,6 @@
 -- A record log as a value change dump (02, 2.3): the text byte by byte.
-use Rattle.std.specs.Prelude.{ℕ, zero, suc, ◌+◌, ◌*◌, ◌/◌, ◌%◌, ◌^◌, cond, List, [], ◌∷◌, ◌++◌, eqb}
+use Rattle.std.specs.Prelude.{ℕ, zero, suc, ◌+◌, ◌*◌, ◌/◌, ◌%◌, cond, List, [], ◌∷◌, ◌++◌, nat_eq, Option, None, Some}
+use Rattle.std.specs.Option.{option_eq}
 use Rattle.figures.specs.Figures.{text, decimal}
 use Rattle.verdict.specs.Changes.{Change, changes_of, has}
 
@@ -16,27 +17,23 @@ unfoldable pub var_lines : List Change → ℕ → List ℕ
 var_lines cs zero = []
 var_lines cs (suc n) = var_lines cs n ++ cond (has n cs) (var_line n) []
 
--- before the first time line: no cycle of 62 bits
-abbrev pub no_cycle : ℕ
-no_cycle = 2 ^ 62
-
 -- the time of a cycle in ps, unless it was the last one written; a cycle is 62,500 ps
-unfoldable pub time_line : ℕ → ℕ → List ℕ
-time_line last cycle = cond (eqb cycle last) [] (text "#" ++ decimal (62500 * cycle) ++ text "\n")
+unfoldable pub time_line : Option ℕ → ℕ → List ℕ
+time_line last cycle = cond (option_eq nat_eq last (Some cycle)) [] (text "#" ++ decimal (62500 * cycle) ++ text "\n")
 
 -- the line of a change
 unfoldable pub value_line : Change → List ℕ
 value_line c = (c.state ∷ text "p") ++ decimal c.pin ++ text "\n"
 
--- the lines of changes after a cycle
-unfoldable pub change_lines : ℕ → List Change → List ℕ
+-- the lines of changes after a cycle, or after none
+unfoldable pub change_lines : Option ℕ → List Change → List ℕ
 change_lines last [] = []
-change_lines last (c ∷ cs) = time_line last c.cycle ++ value_line c ++ change_lines c.cycle cs
+change_lines last (c ∷ cs) = time_line last c.cycle ++ value_line c ++ change_lines (Some c.cycle) cs
 
 -- the cycle of the last of the changes
-unfoldable pub last_cycle : ℕ → List Change → ℕ
+unfoldable pub last_cycle : Option ℕ → List Change → Option ℕ
 last_cycle last [] = last
-last_cycle last (c ∷ cs) = last_cycle c.cycle cs
+last_cycle last (c ∷ cs) = last_cycle (Some c.cycle) cs
 
 -- the lines before the changes: pins have eight bits
 unfoldable pub header : List Change → List ℕ
@@ -44,4 +41,4 @@ header cs = text "$timescale 1 ps $end\n" ++ var_lines cs 256 ++ text "$enddefin
 
 -- the dump of a log
 unfoldable pub dump_of : List ℕ → List ℕ
-dump_of log = header (changes_of log) ++ change_lines no_cycle (changes_of log)
+dump_of log = header (changes_of log) ++ change_lines None (changes_of log)

@@ -1,10 +1,10 @@
 -- The dump by pieces (02, 2.10): its header out of the check's pins, and the lines of a piece.
-use Rattle.std.specs.Prelude.{ℕ, zero, suc, Bool, false, cond, List, [], ◌++◌, get_or}
+use Rattle.std.specs.Prelude.{ℕ, zero, suc, Bool, false, cond, List, [], ◌++◌, get_or, None}
 use Rattle.pieces.specs.Pieces.{start, part_after, wholes}
 use Rattle.verdict.specs.Changes.{changes}
 use Rattle.dump.specs.declared.writer.Writer.{Writer}
 use Rattle.figures.specs.Figures.{text}
-use Rattle.dump.specs.Dump.{var_line, no_cycle, change_lines, last_cycle}
+use Rattle.dump.specs.Dump.{var_line, change_lines, last_cycle}
 
 -- a line for each pin below n that is driven, by rising number
 unfoldable pub vars_of : List Bool → ℕ → List ℕ
@@ -17,7 +17,7 @@ header_of pins = text "$timescale 1 ps $end\n" ++ vars_of pins 256 ++ text "$end
 
 -- before a log's first piece
 abbrev pub begun : Writer
-begun = record { part = start; last = no_cycle }
+begun = record { part = start; last = None }
 
 -- the lines of a piece
 unfoldable pub written_by : Writer → List ℕ → List ℕ

@@ -21,6 +21,7 @@ fn five(out: &mut [u8], at: usize, n: u64) -> usize
 }
 
 // Puts a cycle's time: 62,500 times the cycle may have more than 64 bits, so its last five digits are put apart.
+#[tactic(auto, using(crate::proofs::Writing::time_five_length))]
 fn time(out: &mut [u8], at: usize, cycle: u64) -> usize
     requires { at + length (decimal (62500 * cycle)) ≤ length out.old }
     ensures { Wrote out.old out.new at result (decimal (62500 * cycle)) }
@@ -43,15 +44,19 @@ fn around(out: &mut [u8], at: usize, left: &[u8], n: u64, right: &[u8]) -> usize
 }
 
 // Puts the line that declares a pin's wire.
+#[tactic(auto, using(crate::proofs::Writing::pin_widths))]
 pub fn var_line(out: &mut [u8], at: usize, pin: u64) -> usize
-    requires { (pin < 256) × (at + 27 ≤ length out.old) }
-    ensures { Wrote out.old out.new at result (var_line pin) × (result ≤ at + 27) }
+    requires pin { pin < 256 }
+    requires room { at + 27 ≤ length out.old }
+    ensures line { Wrote out.old out.new at result (var_line pin) }
+    ensures room { result ≤ at + 27 }
 {
     let a = around(out, at, b"$var wire 1 p", pin, b" p");
     around(out, a, b"", pin, b" $end\n")
 }
 
 // The character of a pin record's body.
+#[tactic(auto, unfolding(verdict::specs::Changes::state_of))]
 fn state(body: u64) -> u8
     ensures { result ≡ state_of body }
 {
@@ -63,11 +68,14 @@ fn state(body: u64) -> u8
 }
 
 // Puts the time of a cycle, unless it was the last.
-pub fn time_line(out: &mut [u8], at: usize, last: u64, cycle: u64) -> usize
-    requires { (cycle < 2 ^ 62) × (at + 26 ≤ length out.old) }
-    ensures { Wrote out.old out.new at result (time_line last cycle) × (result ≤ at + 26) }
+#[tactic(auto, unfolding(crate::specs::Dump::time_line), using(crate::proofs::Writing::time_length))]
+pub fn time_line(out: &mut [u8], at: usize, last: Option<u64>, cycle: u64) -> usize
+    requires cycle { cycle < 2 ^ 62 }
+    requires room { at + 26 ≤ length out.old }
+    ensures line { Wrote out.old out.new at result (time_line last cycle) }
+    ensures room { result ≤ at + 26 }
 {
-    if cycle == last {
+    if last == Some(cycle) {
         return at;
     }
     let a = put(out, at, b"#");
@@ -76,9 +84,12 @@ pub fn time_line(out: &mut [u8], at: usize, last: u64, cycle: u64) -> usize
 }
 
 // Puts the line of a pin record's body.
+#[tactic(auto, using(crate::proofs::Writing::pin_widths))]
 pub fn value_line(out: &mut [u8], at: usize, body: u64) -> usize
-    requires { (body < 65536) × (at + 6 ≤ length out.old) }
-    ensures { Wrote out.old out.new at result ((state_of body ∷ text "p") ++ decimal (body / 256) ++ text "\n") × (result ≤ at + 6) }
+    requires body { body < 65536 }
+    requires room { at + 6 ≤ length out.old }
+    ensures line { Wrote out.old out.new at result ((state_of body ∷ text "p") ++ decimal (body / 256) ++ text "\n") }
+    ensures room { result ≤ at + 6 }
 {
     let name = [state(body), b'p'];
     around(out, at, &name, body / 256, b"\n")

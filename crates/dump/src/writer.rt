@@ -1,51 +1,19 @@
 // The lines of the changes, piece by piece.
 
-ghost use Rattle.std.specs.Prelude.{◌≡◌, cond, [], ◌+◌, ◌*◌, ◌/◌, ◌≤◌, length};
-ghost use Rattle.pieces.specs.Pieces.{wholes};
+ghost use Rattle.std.specs.Prelude.{◌≡◌, ◌+◌, ◌*◌, ◌/◌, ◌≤◌, length};
 ghost use Rattle.verdict.specs.Changes.{change_of};
 ghost use Rattle.figures.specs.Figures.{Wrote};
 ghost use Rattle.dump.specs.Dump.{change_lines, last_cycle};
 ghost use Rattle.dump.specs.Pieces.{begun, written_by, after};
 
 use crate::text::{time_line, value_line};
-use pieces::{Part, Whole};
+use pieces::{Kind, Part, Whole};
 
 // What is kept of the pieces so far: the record that is not whole, and the cycle of the last time line.
 #[derive(Clone, Copy)]
 pub struct Writer {
     part: Part,
-    last: u64,
-}
-
-// Where writing stands: the place, and the cycle of the last time line.
-#[derive(Clone, Copy)]
-struct Cursor {
-    at: usize,
-    last: u64,
-}
-
-// The writer after a piece, and the place after its lines.
-#[derive(Clone, Copy)]
-pub struct Lines {
-    pub writer: Writer,
-    pub at: usize,
-}
-
-// Puts the lines of a record, none where there is none or it is no pin record.
-fn change(there: bool, whole: Whole, out: &mut [u8], from: Cursor) -> Cursor
-    requires { from.at + cond there 32 0 ≤ length out.old }
-    ensures { Wrote out.old out.new from.at result.at (change_lines from.last (cond there (change_of whole) [])) × (result.last ≡ last_cycle from.last (cond there (change_of whole) [])) × (result.at ≤ from.at + cond there 32 0) }
-{
-    if !there {
-        return from;
-    }
-    if whole.kind() != 0 {
-        return from;
-    }
-    let cycle = whole.cycle();
-    let a = time_line(out, from.at, from.last, cycle);
-    let b = value_line(out, a, whole.body as u64);
-    Cursor { at: b, last: cycle }
+    last: Option<u64>,
 }
 
 impl Writer {
@@ -53,31 +21,43 @@ impl Writer {
     pub fn new() -> Writer
         ensures { result ≡ begun }
     {
-        let part = Part::new();
         Writer {
-            part,
-            last: 0x4000_0000_0000_0000,
+            part: Part::new(),
+            last: None,
         }
     }
 
-    // Puts a piece's lines at a place of an area that holds 32 bytes for each record that it may make whole.
-    pub fn lines(self, bytes: &[u8], out: &mut [u8], from: usize) -> Lines
-        requires { from + 32 * (length bytes.now / 10 + 1) ≤ length out.old }
-        ensures { Wrote out.old out.new from result.at (written_by self bytes.now) × (result.writer ≡ after self bytes.now) × (result.at ≤ length out.old) }
+    // Puts the lines of a record, none where it is no pin record; yields the place after them.
+    #[tactic(auto, unfolding(verdict::specs::Changes::change_of, crate::specs::Dump::change_lines, crate::specs::Dump::last_cycle, crate::specs::Dump::value_line))]
+    fn change(&mut self, whole: Whole, out: &mut [u8], at: usize) -> usize
+        requires { at + 32 ≤ length out.old }
+        ensures lines { Wrote out.old out.new at result (change_lines self.old.last (change_of whole)) }
+        ensures last { self.new ≡ record self.old { last = last_cycle self.old.last (change_of whole) } }
+        ensures room { result ≤ at + 32 }
     {
-        let mut part = self.part;
-        let mut c = Cursor {
-            at: from,
-            last: self.last,
-        };
-        let mut at = 0;
-        while at < bytes.len() {
-            let next = part.next(bytes, at);
-            c = change(next.ends, next.whole, out, c);
-            part = next.part;
-            at = next.at;
+        if whole.kind() != Kind::Pin {
+            return at;
         }
-        let writer = Writer { part, last: c.last };
-        Lines { writer, at: c.at }
+        let cycle = whole.cycle();
+        let a = time_line(out, at, self.last, cycle);
+        self.last = Some(cycle);
+        value_line(out, a, whole.body as u64)
+    }
+
+    // Puts a piece's lines at a place of an area that holds 32 bytes for each record that it may make whole; yields the place after them.
+    pub fn lines(&mut self, bytes: &[u8], out: &mut [u8], from: usize) -> usize
+        requires { from + 32 * (length bytes.now / 10 + 1) ≤ length out.old }
+        ensures lines { Wrote out.old out.new from result (written_by self.old bytes.now) }
+        ensures writer { self.new ≡ after self.old bytes.now }
+        ensures room { result ≤ length out.old }
+    {
+        let mut at = from;
+        let mut records = self.part.records(bytes);
+        // After a `for` over `&mut records` no proof knows what it left.
+        while let Some(whole) = records.next() {
+            at = self.change(whole, out, at);
+        }
+        self.part = records.remainder();
+        at
     }
 }

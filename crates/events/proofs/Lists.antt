@@ -1,72 +1,62 @@
 -- Facts of the list definitions: where an event stands, which cycle is the earliest, and what a swap_remove leaves.
-use Prim.Native.Nat.{ℕ, zero, suc, ◌+◌, ◌-◌, ◌≤◌, ◌<◌, ◌^◌, min}
+use Prim.Native.Nat.{ℕ, zero, suc, ◌-◌, ◌≤◌, ◌<◌, ◌^◌, min}
 use native.Mathlib.Omega.{arith}
 use native.Mathlib.Decide.{dec_le}
 use native.Mathlib.Nat.{not-suc-le-zero, le_of_suc-le-suc}
 use mathlib.Core.Path.{◌≡◌, refl, sym, ap, ◌∙◌}
-use mathlib.Core.Bool.{Bool, true, false, cond}
-use mathlib.Core.List.{List, [], ◌∷◌, ◌++◌}
+use mathlib.Core.Bool.{Bool, true, false, cond, false≢true}
+use mathlib.Core.List.{List, [], ◌∷◌, ◌++◌, map}
 use lib.Dec.{eqb}
 use lib.ListN.{length, get_or, set, length-set, length-take}
 use lib.Seq.{get_or-set_same, get_or-set_other, get_or-take}
-use borrow.Author.Count.{below_more}
-use borrow.Author.Tests.{eq-eqb, ne_eqb, eqb-true, eqb-false}
+use borrow.Author.Tests.{lt-ltb, eq-eqb, ne_eqb, eqb-true, eqb-false}
+use Rattle.std.specs.Prelude.{None}
+use Rattle.std.specs.List.{fold, position, position_or_len}
+use Rattle.std.proofs.lemmas.List.Sums.{fails_before_first}
 use Rattle.events.specs.declared.Event.{Event}
-use Rattle.events.specs.Events.{blank, position, earliest, foremost, swap_removed, Met}
+use Rattle.events.specs.Events.{blank, earliest, foremost, swap_removed, Met}
 
 -- ---- the first that passes a test
 
-module _ (test : Event → Bool) where
-  pub position-is : (l : List Event) (i : ℕ) → i < length l → test (get_or l i blank) ≡ true → ((k : ℕ) → k < i → test (get_or l k blank) ≡ false) → i ≡ position test l
-  unfolding position
-  position-is [] i h t before = absurd (not-suc-le-zero h)
-  position-is (e ∷ l) zero h t before = rw t refl
-  position-is (e ∷ l) (suc i) h t before =
-      let b : test e ≡ false = before 0 (omega arith) in
-      rw b (ap suc (position-is l i (le_of_suc-le-suc h) t (λ k q. before (suc k) (omega arith))))
-
-  pub position-none : (l : List Event) → ((k : ℕ) → k < length l → test (get_or l k blank) ≡ false) → length l ≡ position test l
-  unfolding position
-  position-none [] before = refl
-  position-none (e ∷ l) before =
-      let b : test e ≡ false = before 0 (omega arith) in
-      rw b (ap suc (position-none l (λ k q. before (suc k) (omega arith))))
-
-  pub position-passes : (l : List Event) → position test l < length l → test (get_or l (position test l) blank) ≡ true
-  unfolding position
-  position-passes [] h = absurd (not-suc-le-zero h)
-  position-passes (e ∷ l) h = go (test e) refl h (position-passes l)
-    where
-      go : (b : Bool) → test e ≡ b → cond b 0 (suc (position test l)) < suc (length l) → (position test l < length l → test (get_or l (position test l) blank) ≡ true)
-          → test (get_or (e ∷ l) (cond b 0 (suc (position test l))) blank) ≡ true
-      go true t q rest = t
-      go false t q rest = rest (le_of_suc-le-suc q)
-
-  pub position-within : (l : List Event) (i : ℕ) → i < length l → test (get_or l i blank) ≡ true → position test l < length l
-  unfolding position
-  position-within [] i h t = absurd (not-suc-le-zero h)
-  position-within (e ∷ l) zero h t = rw t (omega arith)
-  position-within (e ∷ l) (suc i) h t = go (test e) (position-within l i (le_of_suc-le-suc h) t)
-    where
-      go : (b : Bool) → position test l < length l → cond b 0 (suc (position test l)) < suc (length l)
-      go true q = omega arith
-      go false q = omega arith
+pub position-within : (test : Event → Bool) (l : List Event) (i : ℕ) → i < length l → test (get_or l i blank) ≡ true → position_or_len test l < length l
+position-within test l i h t = go (dec_le (position_or_len test l) i)
+  where
+    go : Dec (position_or_len test l ≤ i) → position_or_len test l < length l
+    go (yes q) = omega arith
+    go (no q) = let f = fails_before_first test l i blank (omega (arith, q)) in absurd (false≢true (sym f ∙ t))
 
 -- ---- the earliest cycle
+
+folded : (c d : ℕ) (l : List Event) → fold min (min c d) (map (λ x. x.cycle) l) ≡ min c (fold min d (map (λ x. x.cycle) l))
+folded c d [] = refl
+folded c d (e ∷ l) =
+    let together : min (min c d) e.cycle ≡ min c (min d e.cycle) = omega arith in
+    ap (λ (x : ℕ). fold min x (map (λ y. y.cycle) l)) together ∙ folded c (min d e.cycle) l
+
+pushed : (c : ℕ) (l : List Event) (e : Event) → fold min c (map (λ x. x.cycle) (l ++ e ∷ [])) ≡ min (fold min c (map (λ x. x.cycle) l)) e.cycle
+pushed c [] e = refl
+pushed c (x ∷ l) e = pushed (min c x.cycle) l e
+
+pub earliest-cons : (e f : Event) (l : List Event) → earliest (e ∷ f ∷ l) ≡ min e.cycle (earliest (f ∷ l))
+unfolding earliest
+earliest-cons e f l = folded e.cycle f.cycle l
 
 pub earliest-low : (l : List Event) (i : ℕ) → i < length l → earliest l ≤ (get_or l i blank).cycle
 unfolding earliest
 earliest-low [] i h = absurd (not-suc-le-zero h)
 earliest-low (e ∷ []) zero h = omega arith
 earliest-low (e ∷ []) (suc i) h = absurd (not-suc-le-zero (le_of_suc-le-suc h))
-earliest-low (e ∷ f ∷ l) zero h = omega arith
-earliest-low (e ∷ f ∷ l) (suc i) h = let r = earliest-low (f ∷ l) i (le_of_suc-le-suc h) in omega arith
+earliest-low (e ∷ f ∷ l) zero h = let c = earliest-cons e f l in omega arith
+earliest-low (e ∷ f ∷ l) (suc i) h =
+    let c = earliest-cons e f l in
+    let r = earliest-low (f ∷ l) i (le_of_suc-le-suc h) in
+    omega arith
 
 pub earliest-met : (l : List Event) → 0 < length l → Met l (earliest l)
 unfolding earliest
 earliest-met [] h = absurd (not-suc-le-zero h)
 earliest-met (e ∷ []) h = record { place = 0; within = h; cycle = refl }
-earliest-met (e ∷ f ∷ l) h = go (earliest-met (f ∷ l) (omega arith)) (dec_le e.cycle (earliest (f ∷ l)))
+earliest-met (e ∷ f ∷ l) h = rw (earliest-cons e f l) (go (earliest-met (f ∷ l) (omega arith)) (dec_le e.cycle (earliest (f ∷ l))))
   where
     go : Met (f ∷ l) (earliest (f ∷ l)) → Dec (e.cycle ≤ earliest (f ∷ l)) → Met (e ∷ f ∷ l) (min e.cycle (earliest (f ∷ l)))
     go m (yes q) = record { place = 0; within = omega arith; cycle = omega arith }
@@ -81,17 +71,17 @@ earliest-is l c m low =
 pub earliest-more : (l : List Event) (e : Event) → e.cycle < 2 ^ 64 → earliest (l ++ e ∷ []) ≡ min (earliest l) e.cycle
 unfolding earliest
 earliest-more [] e h = omega arith
-earliest-more (x ∷ []) e h = refl
-earliest-more (x ∷ y ∷ l) e h = let r = earliest-more (y ∷ l) e h in omega arith
-
-foremost-is : (l : List Event) (i : ℕ) → i < length l → (get_or l i blank).cycle ≡ earliest l → ((k : ℕ) → k < i → earliest l < (get_or l k blank).cycle) → i ≡ foremost l
-foremost-is l i h e first =
-    position-is (λ e. eqb e.cycle (earliest l)) l i h (eq-eqb _ _ e) (λ k q. let f = first k q in ne_eqb (get_or l k blank).cycle (earliest l) (λ e. omega arith))
+earliest-more (x ∷ l) e h = pushed x.cycle l e
 
 pub foremost-within : (l : List Event) → 0 < length l → foremost l < length l
 foremost-within l h =
     let m = earliest-met l h in
     position-within (λ e. eqb e.cycle (earliest l)) l m.place m.within (eq-eqb _ _ m.cycle)
+
+-- no event stands at the earliest cycle only where there is none
+pub foremost_none : (l : List Event) → None ≡ position (λ e. eqb e.cycle (earliest l)) l → length l ≡ 0
+foremost_none [] h = refl
+foremost_none (e ∷ l) h = let w = lt-ltb (foremost (e ∷ l)) (length (e ∷ l)) (foremost-within (e ∷ l) (omega arith)) in let n = rw w at h in cc
 
 -- ---- a swap_remove
 
@@ -142,42 +132,3 @@ module _ (i : ℕ) (l : List Event) (h : i < length l) where
       kept m false e =
           let p = eqb-false m.place (length l - 1) e in
           at m m.place (omega (arith, m.within, p)) (rw (ne_eqb m.place i (other m)))
-
--- ---- a search for the foremost
-
--- place is the first of the least cycle among the first i
-pub record Found (l : List Event) (i place cycle : ℕ) : Type 0 where
-  pub within : place < i
-  pub upto : i ≤ length l
-  pub here : (get_or l place blank).cycle ≡ cycle
-  pub low : (k : ℕ) → k < i → cycle ≤ (get_or l k blank).cycle
-  pub first : (k : ℕ) → k < place → cycle < (get_or l k blank).cycle
-
-pub found_first : {l : List Event} {e : Event} → 0 < length l → get_or l 0 blank ≡ e → Found l 1 0 e.cycle
-found_first {l} {e} h s =
-    let here = ap (λ (x : Event). x.cycle) s in
-    record {
-      within = omega arith;
-      upto = h;
-      here = here;
-      low = below_more (λ (k : ℕ). e.cycle ≤ (get_or l k blank).cycle) 0 (λ k p. absurd (not-suc-le-zero p)) (omega arith);
-      first = λ k p. absurd (not-suc-le-zero p);
-    }
-
--- one event e more
-module _ {l : List Event} {i place cycle : ℕ} (f : Found l i place cycle) (h : i < length l) {e : Event} (s : get_or l i blank ≡ e) where
-  pub found-later : cycle ≤ e.cycle → Found l (i + 1) place cycle
-  found-later q =
-      let here = ap (λ (x : Event). x.cycle) s in
-      record { within = omega arith; upto = omega arith; here = f.here; low = below_more _ _ f.low (omega arith); first = f.first }
-
-  pub found-earlier : e.cycle < cycle → Found l (i + 1) i e.cycle
-  found-earlier q =
-      let here = ap (λ (x : Event). x.cycle) s in
-      let first : (k : ℕ) → k < i → e.cycle < (get_or l k blank).cycle = λ k p. let low = f.low k p in omega arith in
-      record { within = omega arith; upto = omega arith; here = here; low = below_more _ _ (λ k p. let low = first k p in omega arith) (omega arith); first = first }
-
-pub found_all : {l : List Event} {place cycle : ℕ} → Found l (length l) place cycle → (place ≡ foremost l) × (cycle ≡ earliest l)
-found_all {l} {place} {cycle} f =
-    let e : cycle ≡ earliest l = earliest-is l cycle (record { place = place; within = f.within; cycle = f.here }) f.low in
-    (foremost-is l place f.within (f.here ∙ e) (λ k p. let b = f.first k p in omega arith), e)

@@ -3,12 +3,14 @@
 
 #![tactic(auto)]
 
-ghost use Rattle.std.specs.Prelude.{◌<◌, ◌≡◌, [], ◌∷◌, ◌++◌, get_or, set};
-ghost use Rattle.events.specs.Events.{blank, same, place_of, earliest, foremost, swap_removed, list_in, Packed};
+ghost use Rattle.std.specs.Prelude.{◌<◌, ◌≤◌, ◌≡◌, [], ◌∷◌, ◌++◌, eqb, length, position, get_or, set, IfSome};
+ghost use Rattle.events.specs.Events.{blank, same, earliest, swap_removed};
+
+use std::marker::Model;
 
 // Identifies an event: the owning peripheral index and a peripheral-defined tag.
 #[repr(C)]
-#[derive(Clone, Copy)]
+#[derive(Clone, Copy, PartialEq, Eq)]
 pub struct EventKey {
     pub owner: u8,
     pub tag: u8,
@@ -22,84 +24,91 @@ pub struct Event {
 }
 
 // How many events are held at most.
-pub const PLACES: usize = 64;
+const PLACES: usize = 64;
+
+// What stands in a place that holds no event.
+const BLANK: Event = Event {
+    key: EventKey { owner: 0, tag: 0 },
+    cycle: 0,
+};
 
 #[repr(C)]
 #[derive(Clone, Copy)]
 pub struct Events {
     places: [Event; PLACES],
-    pub count: usize,
+    count: usize,
 }
 
-// The place and the cycle of the earliest event (0 and 2^64 - 1 when none).
-#[derive(Clone, Copy)]
-pub struct Earliest {
-    pub place: usize,
-    pub cycle: u64,
-}
+// Contracts see the list that the places hold.
+impl Model for Events {
+    ghost use Rattle.std.specs.Prelude.{List};
+    ghost use Rattle.events.specs.declared.Event.{Event};
 
-impl EventKey {
-    fn is(self, key: EventKey) -> bool
-        ensures { result ≡ same self key }
-    {
-        (self.owner == key.owner) & (self.tag == key.tag)
-    }
-}
+    ghost Value = { List Event };
 
-// What stands in a place that holds no event.
-fn blank() -> Event
-    ensures { result ≡ blank }
-{
-    Event {
-        key: EventKey { owner: 0, tag: 0 },
-        cycle: 0,
-    }
+    ghost use Rattle.std.proofs.Common.{sym};
+    ghost use Rattle.events.specs.Places.{listed, list_in, Packed};
+
+    ghost view = { list_in };
+
+    ghost invariant = { Packed };
+
+    ghost inverse = { listed };
+
+    ghost inverse_ok = { λ a h. sym h.whole };
 }
 
 impl Events {
     // No event.
     pub fn new() -> Self
-        ensures { (list_in result ≡ []) × Packed result }
+        ensures { result ≡ [] }
     {
-        let event = blank();
         Events {
-            places: [event; PLACES],
+            places: [BLANK; PLACES],
             count: 0,
         }
     }
 
-    // The place of the first event with the key, or the count.
-    pub fn position(self, key: EventKey) -> usize
-        requires { Packed self }
-        ensures { result ≡ place_of key (list_in self) }
+    // Each place holds an event.
+    pub fn is_full(self) -> bool
+        ensures full { result ≡ eqb (length self) 64 }
+        ensures room { length self ≤ 64 }
     {
-        let places = self.places;
-        let count = self.count;
-        let mut i = 0;
-        while i < count {
-            let event = places[i];
-            let held = event.key;
-            if held.is(key) {
-                return i;
-            }
-            i += 1;
-        }
-        i
+        self.count == PLACES
+    }
+
+    // The place of the first event with the key.
+    pub fn position(self, key: EventKey) -> Option<usize>
+        ensures place { result ≡ position (λ e. same e.key key) self }
+        ensures within { IfSome result (λ i. i < length self) }
+    {
+        self.places[..self.count]
+            .iter()
+            .position(|event| event.key == key)
+    }
+
+    // The place of the first event at the cycle.
+    pub fn first_at(self, cycle: u64) -> Option<usize>
+        ensures place { result ≡ position (λ e. eqb e.cycle cycle) self }
+        ensures within { IfSome result (λ i. i < length self) }
+    {
+        self.places[..self.count]
+            .iter()
+            .position(|event| event.cycle == cycle)
     }
 
     // The event at a place.
     pub fn get(self, i: usize) -> Event
-        requires { Packed self × (i < self.count) }
-        ensures { result ≡ get_or (list_in self) i blank }
+        requires { i < length self }
+        ensures { result ≡ get_or self i blank }
     {
-        let places = self.places;
-        places[i]
+        self.places[i]
     }
 
     // Another event at a place.
     pub fn set(mut self, i: usize, event: Event) -> Self
-        requires { Packed self × (i < self.count) }
-        ensures { (list_in result ≡ set (list_in self) i event) × Packed result }
+        requires { i < length self }
+        ensures { result ≡ set self i event }
     {
         self.places[i] = event;
         self
@@ -107,52 +116,34 @@ impl Events {
 
     // One event more, at the end.
     pub fn push(mut self, event: Event) -> Self
-        requires { Packed self × (self.count < 64) }
-        ensures { (list_in result ≡ list_in self ++ event ∷ []) × Packed result }
+        requires { length self < 64 }
+        ensures { result ≡ self ++ event ∷ [] }
     {
-        let count = self.count;
-        self.places[count] = event;
-        self.count = count + 1;
+        self.places[self.count] = event;
+        self.count += 1;
         self
     }
 
     // One event less: the last one takes its place.
     pub fn swap_remove(mut self, i: usize) -> Self
-        requires { Packed self × (i < self.count) }
-        ensures { (list_in result ≡ swap_removed i (list_in self)) × Packed result }
+        requires { i < length self }
+        ensures { result ≡ swap_removed i self }
     {
         let last = self.count - 1;
-        self.places[i] = self.get(last);
-        self.places[last] = blank();
+        self.places[i] = self.places[last];
+        self.places[last] = BLANK;
         self.count = last;
         self
     }
 
-    // The first event with the least cycle.
-    pub fn earliest(self) -> Earliest
-        requires { Packed self }
-        ensures { result ≡ record { place = foremost (list_in self); cycle = earliest (list_in self) } }
+    // The least cycle, 2^64 - 1 when there is no event.
+    pub fn earliest(self) -> u64
+        ensures { result ≡ earliest self }
     {
-        let places = self.places;
-        let count = self.count;
-        if count == 0 {
-            return Earliest {
-                place: 0,
-                cycle: 0xffff_ffff_ffff_ffff,
-            };
-        }
-        let first = places[0];
-        let mut place = 0;
-        let mut cycle = first.cycle;
-        let mut i = 1;
-        while i < count {
-            let event = places[i];
-            if event.cycle < cycle {
-                place = i;
-                cycle = event.cycle;
-            }
-            i += 1;
-        }
-        Earliest { place, cycle }
+        self.places[..self.count]
+            .iter()
+            .map(|event| event.cycle)
+            .min()
+            .unwrap_or(u64::MAX)
     }
 }

@@ -1,5 +1,5 @@
 -- Laws of texts as bytes: one after the other, and decimal digits.
-use Prim.Native.Nat.{ℕ, zero, suc, ◌+◌, ◌/◌, ◌%◌, ◌≤◌, ◌<◌, ◌^◌}
+use Prim.Native.Nat.{ℕ, zero, suc, ◌+◌, ◌-◌, ◌/◌, ◌%◌, ◌≤◌, ◌<◌, ◌^◌}
 use native.Mathlib.Omega.{arith}
 use native.Mathlib.Decide.{dec_le}
 use native.Mathlib.Nat.{not-suc-le-zero, pow-succ'}
@@ -9,6 +9,9 @@ use mathlib.Core.List.{List, [], ◌∷◌, ◌++◌, append_assoc, append-nil}
 use lib.Dec.{ltb}
 use lib.ListN.{length, take, drop, length-append}
 use borrow.Author.Tests.{lt-ltb, le-ltb}
+use lib.Seq.{drop-drop}
+use borrow.Rule.Slice.PartMut.{put_mid}
+use Rattle.std.proofs.lemmas.List.Edits.{sets-eq}
 use Rattle.records.proofs.Records.{sets-append, sets-front, take-sets}
 use Rattle.figures.specs.Figures.{digits, decimal, number, Wrote}
 
@@ -20,6 +23,12 @@ wrote_then {a} {b} {c} {at} {p} {q} {x} {y} v w =
 
 pub wrote-regroup : {a c : List ℕ} {at q : ℕ} (x y z : List ℕ) → Wrote a c at q (x ++ (y ++ z)) → Wrote a c at q (x ++ y ++ z)
 wrote-regroup x y z w = rw (append_assoc x y z) w
+
+-- what was copied into a part of an area
+pub wrote_part : (old new bytes : List ℕ) (at end : ℕ) → new ≡ bytes → end ≡ at + length bytes → at + length bytes ≤ length old → Wrote old (put_mid at (end - at) old new) at end bytes
+wrote_part old new bytes at end same last room =
+    let count : end - at ≡ length bytes = omega arith in
+    record { place = last; area = rw (same, count, drop-drop, sets-eq bytes old at room) (simp append_assoc) }
 
 -- nothing
 pub wrote_none : (a : List ℕ) (at : ℕ) → Wrote a a at at []
@@ -109,9 +118,6 @@ digits-short (suc k) n = go (digits-short k (n / 10)) (dec_le 10 n)
 pub number_short : (n : ℕ) → length (number n) ≤ 20
 unfolding number
 number_short n = digits-short 20 n
-
-pub length-around : (x y z : List ℕ) → length (x ++ y ++ z) ≡ length x + length y + length z
-length-around x y z = simp length-append (omega arith)
 
 -- ---- a text that is written from its start on
 

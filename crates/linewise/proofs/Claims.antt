@@ -1,18 +1,16 @@
 -- What is proved of a script's lines beside the functions, byte by byte.
-use Prim.Native.Nat.{ℕ, suc, ◌+◌, ◌≤◌, ◌<◌}
+use Prim.Native.Nat.{ℕ, ◌+◌, ◌≤◌, ◌<◌}
 use native.Mathlib.Omega.{arith}
 use native.Mathlib.Decide.{dec_le}
-use native.Mathlib.Nat.{add-zero}
-use native.Mathlib.Numerals.{add-one}
 use mathlib.Core.Bool.{Bool, true, false, cond}
 use mathlib.Core.List.{List, [], ◌∷◌, ◌++◌, foldl, foldl-append, append-nil}
 use mathlib.Core.Path.{◌≡◌, refl, sym, ap, ◌∙◌}
 use borrow.Author.Tests.{lt-ltb, le-ltb}
 use lib.Dec.{eqb}
-use lib.ListN.{length, set}
-use lib.Seq.{sets, append_snoc}
+use lib.ListN.{length, length-append}
+use lib.Seq.{append_snoc}
 use Rattle.words.specs.Words.{onto}
-use Rattle.linewise.specs.Lines.{Held, holding, hold, holds}
+use Rattle.linewise.specs.Lines.{hold, holds}
 use Rattle.linewise.specs.Claims.{lines_of, Read, reading, feed, fed, CutAnywhere, OneFold, Whole, TooLong}
 
 pub cut-anywhere : CutAnywhere
@@ -79,39 +77,41 @@ one-fold S step s script = fold-from S step s [] script ∙ ap (foldl step s) (b
 -- ---- what is held
 
 -- a byte that has room
-here : (line : List ℕ) (held b : ℕ) → held < 500 → hold (holding line held) b ≡ holding (set line held b) (suc held)
+here : (line : List ℕ) (b : ℕ) → length line < 501 → hold line b ≡ line ++ b ∷ []
 unfolding hold
-here line held b h = rw (lt-ltb held 500 h, add-one held)
+here line b h = rw (lt-ltb (length line) 501 h)
 
 -- and one that has none
-over : (line : List ℕ) (held b : ℕ) → 500 ≤ held → hold (holding line held) b ≡ holding line 501
+over : (line : List ℕ) (b : ℕ) → 501 ≤ length line → hold line b ≡ line
 unfolding hold
-over line held b h = rw (le-ltb held 500 h)
+over line b h = rw (le-ltb (length line) 501 h)
 
-whole_from : (line bytes : List ℕ) (held : ℕ) → held + length bytes ≤ 500 → holds (holding line held) bytes ≡ holding (sets line held bytes) (held + length bytes)
-whole_from line [] held h = ap (holding line) (sym (add-zero held))
-whole_from line (b ∷ bs) held h =
-    let e : suc held + length bs ≡ held + suc (length bs) = omega arith in
-    ap (λ (x : Held). holds x bs) (here line held b (omega arith)) ∙ whole_from (set line held b) bs (suc held) (omega arith) ∙ ap (holding (sets (set line held b) (suc held) bs)) e
+whole_from : (line bytes : List ℕ) → length line + length bytes ≤ 500 → holds line bytes ≡ line ++ bytes
+whole_from line [] h = sym (append-nil line)
+whole_from line (b ∷ bs) h =
+    let n = length-append line (b ∷ []) in
+    rw (here line b (omega arith)) (whole_from (line ++ b ∷ []) bs (omega (arith, n)) ∙ append_snoc line b bs)
 
 pub whole : Whole
-whole line bytes h = whole_from line bytes 0 (omega arith) ∙ ap (holding (sets line 0 bytes)) (omega arith)
+whole bytes h = whole_from [] bytes (omega arith)
 
 -- once too long it stays so
-stays : (line bytes : List ℕ) → (holds (holding line 501) bytes).held ≡ 501
-stays line [] = refl
-stays line (b ∷ bs) = ap (λ (x : Held). (holds x bs).held) (over line 501 b (omega arith)) ∙ stays line bs
+stays : (line bytes : List ℕ) → length line ≡ 501 → length (holds line bytes) ≡ 501
+stays line [] n = n
+stays line (b ∷ bs) n = ap (λ (l : List ℕ). length (holds l bs)) (over line b (omega (arith, n))) ∙ stays line bs n
 
-long-byte : (line bs : List ℕ) (held b : ℕ) → (held < 500 → (holds (holding (set line held b) (suc held)) bs).held ≡ 501) → (holds (holding line held) (b ∷ bs)).held ≡ 501
-long-byte line bs held b on = go (dec_le 500 held)
+long-byte : (line bs : List ℕ) (b : ℕ) → length line ≤ 501 → (length line < 501 → length (holds (line ++ b ∷ []) bs) ≡ 501) → length (holds line (b ∷ bs)) ≡ 501
+long-byte line bs b k on = go (dec_le 501 (length line))
   where
-    go : Dec (500 ≤ held) → (holds (holding line held) (b ∷ bs)).held ≡ 501
-    go (yes q) = ap (λ (x : Held). (holds x bs).held) (over line held b q) ∙ stays line bs
-    go (no q) = ap (λ (x : Held). (holds x bs).held) (here line held b (omega arith)) ∙ on (omega arith)
+    go : Dec (501 ≤ length line) → length (holds line (b ∷ bs)) ≡ 501
+    go (yes q) = ap (λ (l : List ℕ). length (holds l bs)) (over line b q) ∙ stays line bs (omega arith)
+    go (no q) = ap (λ (l : List ℕ). length (holds l bs)) (here line b (omega arith)) ∙ on (omega arith)
 
-long-from : (line bytes : List ℕ) (held : ℕ) → held ≤ 500 → 500 < held + length bytes → (holds (holding line held) bytes).held ≡ 501
-long-from line [] held k h = absurd (omega arith)
-long-from line (b ∷ bs) held k h = long-byte line bs held b (λ q. long-from (set line held b) bs (suc held) (omega arith) (omega arith))
+long-from : (line bytes : List ℕ) → length line ≤ 501 → 500 < length line + length bytes → length (holds line bytes) ≡ 501
+long-from line [] k h = omega arith
+long-from line (b ∷ bs) k h =
+    let n = length-append line (b ∷ []) in
+    long-byte line bs b k (λ q. long-from (line ++ b ∷ []) bs (omega (arith, n)) (omega (arith, n)))
 
 pub too_long : TooLong
-too_long line bytes h = long-from line bytes 0 (omega arith) (omega arith)
+too_long bytes h = long-from [] bytes (omega arith) (omega arith)

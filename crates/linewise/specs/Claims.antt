@@ -1,9 +1,8 @@
 -- What is proved of a script's lines beside the functions: its answers are one fold over them, wherever its pieces are cut, and a line that is held is the line.
 use Rattle.std.specs.Prelude.{ℕ, ◌≤◌, ◌<◌, cond, ◌≡◌, eqb, length}
 use mathlib.Core.List.{List, [], ◌∷◌, ◌++◌, foldl}
-use Rattle.std.proofs.lemmas.List.Edits.{sets}
 use Rattle.words.specs.Words.{onto}
-use Rattle.linewise.specs.Lines.{holding, holds}
+use Rattle.linewise.specs.Lines.{holds}
 
 -- ---- lines
 
@@ -43,8 +42,8 @@ OneFold = (S : Type 0) (step : S → List ℕ → S) (s : S) (script : List ℕ)
 
 -- a line of 500 bytes at most is held as it is
 abbrev pub Whole : Type 0
-Whole = (line bytes : List ℕ) → length bytes ≤ 500 → holds (holding line 0) bytes ≡ holding (sets line 0 bytes) (length bytes)
+Whole = (bytes : List ℕ) → length bytes ≤ 500 → holds [] bytes ≡ bytes
 
 -- a longer one is seen to be too long
 abbrev pub TooLong : Type 0
-TooLong = (line bytes : List ℕ) → 500 < length bytes → (holds (holding line 0) bytes).held ≡ 501
+TooLong = (bytes : List ℕ) → 500 < length bytes → length (holds [] bytes) ≡ 501

@@ -1,48 +1,58 @@
 -- The list that `item` lines make up (docs/SCRIPT.md, "Lists of register writes").
-use Rattle.std.specs.Prelude.{ℕ, ◌+◌, ◌*◌, ◌-◌, ◌^◌, ◌≤◌, cond, List, ◌++◌, ◌≡◌, eqb, ltb}
-use Rattle.std.proofs.lemmas.List.Edits.{sets}
+use Rattle.std.specs.Prelude.{ℕ, ◌+◌, ◌*◌, ◌/◌, ◌-◌, ◌^◌, ◌≤◌, cond, List, ◌++◌, ◌≡◌, length, nat_le, Result, Ok, Err}
 use Rattle.figures.specs.Figures.{text, number}
-use Rattle.words.specs.Words.{exactly_of}
+use Rattle.words.specs.Words.{exactly_of, and_then}
 use Rattle.words.specs.Numbers.{next_of}
-use Rattle.words.specs.declared.Taken.{Taken}
+use Rattle.words.specs.declared.Unreadable.{Unreadable}
+use Rattle.words.specs.declared.Unreadable.TheVariants as unreadable
 use Rattle.page.specs.Page.{Puts, unreadable_of}
 use Rattle.records.specs.Records.{bytes_of}
-use Rattle.list_lines.specs.declared.made.Made.{Made}
+use Rattle.items.specs.declared.Item.{Item}
 
--- what an item's line leaves: how many items the list holds, the list's bytes, and the answer's
+-- what an item's line leaves: the list's bytes, ten an item, and the answer's
 pub record Added : Type 0 where
-  pub items : ℕ
   pub list : List ℕ
   pub bytes : List ℕ
 
 -- a line that leaves the list as it was
-abbrev pub saying : ℕ → List ℕ → List ℕ → Added
-saying n list bytes = record { items = n; list = list; bytes = bytes }
+abbrev pub saying : List ℕ → List ℕ → Added
+saying list bytes = record { list = list; bytes = bytes }
+
+-- what an item has room for: 10 bits of address, 8 of value and 62 of cycle
+pub record IsItem (i : Item) : Type 0 where
+  pub address : i.address ≤ 0x3ff
+  pub value : i.value ≤ 0xff
+  pub cycle : i.cycle.0 ≤ 0x3fffffffffffffff
 
 -- "ten an item (address 10 bits, value 8, cycle 62, the most significant first)"
 unfoldable pub item_of : ℕ → ℕ → ℕ → List ℕ
 item_of address value cycle = bytes_of 10 (address * 2 ^ 70 + value * 2 ^ 62 + cycle)
 
--- "ok items=K: how many the list holds"; "the 401st item an extra word", 5
-unfoldable pub added_of : ℕ → ℕ → List ℕ → List ℕ → Added
-added_of n nth list item =
-    cond (ltb n 400) (saying (n + 1) (sets list (10 * n) item) (text "ok items=" ++ number (n + 1))) (saying n list (unreadable_of nth 5))
-
--- an item whose words were read
-unfoldable pub item_read : ℕ → ℕ → List ℕ → Taken → Taken → Taken → Added
-item_read n nth list address value cycle =
-    cond (eqb cycle.next.why 0) (added_of n nth list (item_of address.value value.value cycle.value)) (saying n list (unreadable_of nth cycle.next.why))
+-- "ok items=K: how many the list holds"; "the 401st item an extra word"
+unfoldable pub added_of : ℕ → List ℕ → List ℕ → Added
+added_of nth list item =
+    cond (nat_le 4000 (length list)) (saying list (unreadable_of nth unreadable.ExtraWord))
+    (saying (list ++ item) (text "ok items=" ++ number (length (list ++ item) / 10)))
 
 -- `item ADDR VALUE CYCLE`, from the place after its name: "an address over 3FF or a cycle over 2^62 − 1 is a number too large"
-unfoldable pub item_line : ℕ → ℕ → List ℕ → ℕ → List ℕ → Added
-item_line n nth line at list =
-    let address = next_of line (exactly_of line at 3) 16 1023 in
-    let value = next_of line address.next 16 255 in
-    item_read n nth list address value (next_of line value.next 10 (2 ^ 62 - 1))
+unfoldable pub asked_of : List ℕ → ℕ → Result Item Unreadable
+asked_of line at =
+    and_then (exactly_of line at 3) (λ _.
+    and_then (next_of line at 16 1023) (λ address.
+    and_then (next_of line address.end 16 255) (λ value.
+    and_then (next_of line value.end 10 (2 ^ 62 - 1)) (λ cycle.
+    Ok (record { address = address.value; value = value.value; cycle = record { 0 = cycle.value } })))))
 
--- what the code leaves is what the line's definition says; the list has room for its items
-pub record Adds (x : Added) (old : List ℕ) (from : ℕ) (new : List ℕ) (after : List ℕ) (r : Made) : Type 0 where
-  pub items : r.items ≡ x.items
+-- an item whose words were read
+unfoldable pub item_read : ℕ → List ℕ → Result Item Unreadable → Added
+item_read nth list (Ok item) = added_of nth list (item_of item.address item.value item.cycle.0)
+item_read nth list (Err why) = saying list (unreadable_of nth why)
+
+-- the line
+abbrev pub item_line : ℕ → List ℕ → ℕ → List ℕ → Added
+item_line nth line at list = item_read nth list (asked_of line at)
+
+-- what the code leaves is what the line's definition says
+pub record Adds (x : Added) (old new after : List ℕ) : Type 0 where
   pub list : after ≡ x.list
-  pub puts : Puts old from new r.at x.bytes
-  pub most : r.items ≤ 400
+  pub puts : Puts old new x.bytes

@@ -1,200 +1,161 @@
 // Lists of writes, worked on the timer.
 
-ghost use Rattle.std.specs.Prelude.{◌≤◌, ◌≡◌, length};
-ghost use Rattle.words.specs.Numbers.{next_of};
+ghost use Rattle.std.specs.Prelude.{ℕ, ◌≤◌, ◌≡◌, List, length, IfOk, IfSome};
 ghost use Rattle.page.specs.Page.{Puts};
 ghost use Rattle.counter.specs.Valid.{Valid};
-ghost use Rattle.digits.specs.Spelling.{bytes_of};
-ghost use Rattle.list_lines.specs.Lists.{reason_of, ended_of, worked_of, on_timer, of_items, of_word, writes_line, Leaves};
+ghost use Rattle.list_lines.specs.Lists.{reason_of, ended_of, worked_of, of_list, word_of, asked_of, writes_line, Leaves};
 
 use crate::made::Items;
+use counter::state::Timer;
+use digits::Bytes;
 use display::answer::records;
-use page::{Page, number, text, unreadable};
+use page::Page;
 use room::{changed, fill};
-use timer_lines::socket::Socket;
-use words::{Cursor, FINE, decimal, exactly};
+use words::{Unreadable, decimal, exactly};
 use writes::{Why, Written, writes};
 
 // The bytes of the longest list that a line can hold.
 const LONGEST: usize = 250;
 
-// After a line: the timer, how many items the list of lines holds, the place after what was put on the page, and how many bytes of the area are records.
+// What a line asks for: its own list, none where that of lines is meant, and the size of the area.
+#[derive(Drop)]
+struct Asked {
+    list: Option<Bytes<LONGEST>>,
+    size: usize,
+}
+
+// What a line leaves: the timer, if there is one, and how many bytes of the area are records.
 #[derive(Clone, Copy)]
 pub struct Left {
-    pub socket: Socket,
-    pub items: usize,
-    pub at: usize,
+    pub timer: Option<Timer>,
     pub written: usize,
 }
 
+impl Asked {
+    // Reads the size and a list.
+    #[tactic(auto, unfolding(crate::specs::Lists::word_of, words::specs::Words::and_then))]
+    fn word(line: &[u8], at: usize) -> Result<Asked, Unreadable>
+        ensures { IfOk result (λ q. q.size ≤ 4096) × (result ≡ word_of line.now at) }
+    {
+        exactly(line, at, 2)?;
+        let size = decimal(line, at, 4096)?;
+        let list = Bytes::of(line, size.end)?;
+        Ok(Asked {
+            list: Some(list),
+            size: size.value as usize,
+        })
+    }
+
+    // Reads the size alone, where there is but one word, else a list too.
+    #[tactic(auto, unfolding(crate::specs::Lists::asked_of, words::specs::Words::and_then))]
+    fn of(line: &[u8], at: usize) -> Result<Asked, Unreadable>
+        ensures { IfOk result (λ q. q.size ≤ 4096) × (result ≡ asked_of line.now at) }
+    {
+        if exactly(line, at, 1).is_err() {
+            return Asked::word(line, at);
+        }
+        let size = decimal(line, at, 4096)?;
+        Ok(Asked {
+            list: None,
+            size: size.value as usize,
+        })
+    }
+}
+
 // Puts why a list ended.
-fn reason(page: &mut Page, from: usize, why: Why) -> usize
-    ensures { Puts page.old from page.new result (reason_of why) }
+#[tactic(auto, unfolding(crate::specs::Lists::reason_of, figures::specs::Figures::codes))]
+fn reason(page: &mut Page, why: Why)
+    ensures { Puts page.old page.new (reason_of why) }
 {
     match why {
-        Why::Refused(n) => number(page, from, b" why=refused number=", n as u64),
-        Why::AllDone => text(page, from, b" why=all"),
-        Why::Paused(cycle, f) => number(page, from, b" why=paused cycle=", cycle.0),
+        Why::Refused(n) => page.number(b" why=refused number=", n as u64),
+        Why::AllDone => page.text(b" why=all"),
+        Why::Paused(cycle, _) => page.number(b" why=paused cycle=", cycle.0),
     }
 }
 
 // Puts how many items are done, why the list ended, and the bytes written.
-fn ended(page: &mut Page, from: usize, w: Written, area: &[u8]) -> usize
-    ensures { Puts page.old from page.new result (ended_of w.done w.why area.now w.written) }
+#[tactic(auto, using(page::proofs::Sheets::then), unfolding(crate::specs::Lists::ended_of, figures::specs::Figures::codes))]
+fn ended(page: &mut Page, w: Written, area: &[u8])
+    ensures { Puts page.old page.new (ended_of w.done w.why area.now w.written) }
 {
-    let why = w.why;
-    let at = number(page, from, b"ok done=", w.done as u64);
-    let at = reason(page, at, why);
-    records(page, at, area, w.written)
+    page.number(b"ok done=", w.done as u64);
+    reason(page, w.why);
+    records(page, area, w.written)
 }
 
-// Works a list on an area, filled, and puts the answer, or where the area changed beyond what was written; yields so many items.
-fn listed(
-    s: Socket,
-    items: usize,
-    page: &mut Page,
-    from: usize,
-    list: &[u8],
-    area: &mut [u8],
-) -> Left
-    requires { (Valid s.timer) × (items ≤ 400) }
-    ensures { Leaves (worked_of s items list.now (length area.old)) page.old from page.new area.new result }
+// Works a list on an area, filled, and puts the answer, or where the area changed beyond what was written.
+fn worked(t: Timer, page: &mut Page, list: &[u8], area: &mut [u8]) -> Left
+    requires { Valid t }
+    ensures { (items : List ℕ) → Leaves (worked_of t items list.now (length area.old)) page.old page.new area.new items result }
 {
     fill(area);
-    let w = writes(s.timer, list, area);
-    let timer = w.timer;
-    let socket = Socket {
-        ready: s.ready,
-        timer,
-    };
+    let w = writes(t, list, area);
+    let timer = Some(w.timer);
     let end = changed(area, w.written);
     if end < area.len() {
-        return Left {
-            socket,
-            items,
-            at: number(page, from, b"area changed at ", end as u64),
-            written: 0,
-        };
+        page.number(b"area changed at ", end as u64);
+        return Left { timer, written: 0 };
     }
+    ended(page, w, area);
     Left {
-        socket,
-        items,
-        at: ended(page, from, w, area),
+        timer,
         written: w.written,
     }
 }
 
-// Works a list on the first bytes of an area, and leaves so many items; without a timer there are as many as before.
-fn on_timer(
-    s: Socket,
-    n: usize,
-    left: usize,
+// Works what a line asks for on the first bytes of the area; the list of lines is emptied, where there is a timer to work it.
+#[tactic(auto, unfolding(crate::specs::Lists::of_list, crate::specs::Lists::of_bytes, crate::specs::Lists::on_timer, figures::specs::Figures::codes))]
+fn heard(
+    t: Option<Timer>,
+    asked: Asked,
     page: &mut Page,
-    from: usize,
-    list: &[u8],
-    size: usize,
+    items: &mut Items,
     area: &mut [u8],
 ) -> Left
-    requires { (Valid s.timer) × (n ≤ 400) × (left ≤ 400) × (size ≤ 4096) × (4096 ≤ length area.old) }
-    ensures { Leaves (on_timer s n left list.now size area.old) page.old from page.new area.new result }
+    requires { (IfSome t Valid) × (asked.size ≤ 4096) × (4096 ≤ length area.old) }
+    ensures { Leaves (of_list t items.old asked.list asked.size area.old) page.old page.new area.new items.new result }
 {
-    if s.ready {
-        return listed(s, left, page, from, list, &mut area[0..size]);
+    match (&asked.list, t) {
+        (Some(list), _) if list.as_slice().len() % 10 != 0 => page.text(b"refused 12"),
+        (_, None) => page.text(b"no timer"),
+        (Some(list), Some(timer)) => {
+            return worked(timer, page, list.as_slice(), &mut area[..asked.size]);
+        }
+        (None, Some(timer)) => {
+            let left = worked(timer, page, items.as_slice(), &mut area[..asked.size]);
+            items.clear();
+            return left;
+        }
     }
     Left {
-        socket: s,
-        items: n,
-        at: text(page, from, b"no timer"),
+        timer: t,
         written: 0,
     }
 }
 
-// Works the list that lines made up, and empties it.
-fn of_items(
-    s: Socket,
-    n: usize,
-    page: &mut Page,
-    from: usize,
-    nth: u64,
-    line: &[u8],
-    c: Cursor,
-    items: &Items,
-    area: &mut [u8],
-) -> Left
-    requires { (Valid s.timer) × (n ≤ 400) × (4096 ≤ length area.old) }
-    ensures { Leaves (of_items s n nth (next_of line.now c 10 4096) items.now area.old) page.old from page.new area.new result }
-{
-    let size = decimal(line, c, 4096);
-    let end = size.next;
-    if end.why != FINE {
-        return Left {
-            socket: s,
-            items: n,
-            at: unreadable(page, from, nth, end.why),
-            written: 0,
-        };
-    }
-    let all = &items[..];
-    let to = 10 * n;
-    on_timer(s, n, 0, page, from, &all[0..to], size.value as usize, area)
-}
-
-// Works the list that the line itself has; 12 where its length is not a multiple of ten, before all others.
-fn of_word(
-    s: Socket,
-    n: usize,
-    page: &mut Page,
-    from: usize,
-    nth: u64,
-    line: &[u8],
-    c: Cursor,
-    area: &mut [u8],
-) -> Left
-    requires { (Valid s.timer) × (n ≤ 400) × (4096 ≤ length area.old) }
-    ensures { Leaves (of_word s n nth (next_of line.now c 10 4096) (bytes_of line.now (next_of line.now c 10 4096).next 250) area.old) page.old from page.new area.new result }
-{
-    let mut list = [0u8; LONGEST];
-    let size = decimal(line, c, 4096);
-    let read = digits::bytes(line, size.next, &mut list);
-    if read.why != FINE {
-        return Left {
-            socket: s,
-            items: n,
-            at: unreadable(page, from, nth, read.why),
-            written: 0,
-        };
-    }
-    let to = read.value as usize;
-    let bytes = &list[0..to];
-    if bytes.len() % 10 != 0 {
-        return Left {
-            socket: s,
-            items: n,
-            at: text(page, from, b"refused 12"),
-            written: 0,
-        };
-    }
-    on_timer(s, n, n, page, from, bytes, size.value as usize, area)
-}
-
 // Answers a writes line from the place after its name, on an area of which the list has as many bytes as it asks for.
+#[tactic(auto, unfolding(crate::specs::Lists::heard_of))]
 pub fn writes_line(
-    s: Socket,
-    n: usize,
+    t: Option<Timer>,
     page: &mut Page,
-    from: usize,
     nth: u64,
     line: &[u8],
     at: usize,
-    items: &Items,
+    items: &mut Items,
     area: &mut [u8],
 ) -> Left
-    requires { (Valid s.timer) × (n ≤ 400) × (4096 ≤ length area.old) }
-    ensures { Leaves (writes_line s n nth line.now at items.now area.old) page.old from page.new area.new result }
+    requires { (IfSome t Valid) × (4096 ≤ length area.old) }
+    ensures { Leaves (writes_line t nth line.now at items.old area.old) page.old page.new area.new items.new result }
 {
-    let one = exactly(line, at, 1);
-    if one.why == FINE {
-        return of_items(s, n, page, from, nth, line, one, items, area);
+    match Asked::of(line, at) {
+        Ok(asked) => heard(t, asked, page, items, area),
+        Err(why) => {
+            page.unreadable(nth, why);
+            Left {
+                timer: t,
+                written: 0,
+            }
+        }
     }
-    of_word(s, n, page, from, nth, line, exactly(line, at, 2), area)
 }

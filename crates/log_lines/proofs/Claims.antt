@@ -1,67 +1,42 @@
 -- How long the answer of a log's line may be.
-use Prim.Native.Nat.{ℕ, ◌*◌, ◌-◌, ◌^◌, ◌≤◌}
-use native.Mathlib.Omega.{arith}
-use mathlib.Core.Bool.{cond}
-use mathlib.Core.List.{List, [], ◌++◌}
-use lib.Dec.{eqb, ltb}
-use lib.ListN.{length, drop, length-append, length-take}
-use Rattle.figures.specs.Figures.{text, number}
-use Rattle.words.specs.Words.{skip_of, find_of, place_of, exactly_of}
-use Rattle.words.specs.Numbers.{between, next_of}
-use Rattle.words.specs.declared.Cursor.{Cursor}
-use Rattle.words.specs.declared.Taken.{Taken}
-use Rattle.page.proofs.Lengths.{Upto, numbered, either, unreadable-short}
+use Rattle.std.proofs.Common.{ℕ, ◌*◌, List, drop, length-append, length-take, arith, Result, Ok, Err}
+use Rattle.words.specs.declared.Unreadable.{Unreadable}
+use Rattle.page.proofs.Lengths.{Upto, numbered, unreadable-short}
 use Rattle.records.specs.Records.{record_at}
 use Rattle.display.proofs.Lengths.{bytes-short}
-use Rattle.digits.specs.Spelling.{Spelt, bytes_of}
 use Rattle.record_ring.specs.Log.{added, released}
+use Rattle.record_ring.specs.declared.Refusal.{Refusal}
 use Rattle.record_ring.specs.declared.Ring.{Ring}
-use Rattle.log_lines.specs.Logged.{Lined, held_of, placed_by, add_of, release_of, read_of, named_of, log_line}
+use Rattle.log_lines.specs.declared.asked.Asked.{Asked}
+use Rattle.log_lines.specs.declared.asked.Asked.TheVariants as asked
+use Rattle.log_lines.specs.Asked.{asked_of}
+use Rattle.log_lines.specs.Logged.{held_of, placed_of, shown_of, heard_of}
 use Rattle.log_lines.specs.Claims.{Short}
 
-abbrev Brief : Lined → Type 0
-Brief x = length x.bytes ≤ 55
-
-held-short : (n : ℕ) (ring : Ring) → Upto 28 (held_of n ring)
+held-short : (called : Result Ring Refusal) → Upto 28 (held_of called)
 unfolding held_of
-held-short n ring = either (Upto 28) (eqb n 0) (numbered _ _ ring.held (omega arith)) (numbered _ _ n (omega arith))
+held-short (Ok after) = numbered _ _ after.held (omega arith)
+held-short (Err refusal) = numbered _ _ _ (omega arith)
 
-placed-short : (ring : Ring) (x : ℕ × Ring × List ℕ) → Brief (placed_by ring x)
-unfolding placed_by
-placed-short ring x =
-    let h = held-short x.0 x.1 in
-    let k : Upto 27 (cond (eqb x.0 0) (text " place=" ++ number ring.next) []) = either (Upto 27) (eqb x.0 0) (numbered _ _ ring.next (omega arith)) (omega arith) in
+placed-short : (ring : Ring) (called : Result Ring Refusal) → Upto 27 (placed_of ring called)
+unfolding placed_of
+placed-short ring (Ok after) = numbered _ _ ring.next (omega arith)
+placed-short ring (Err refusal) = omega arith
+
+shown-short : (area : List ℕ) (place : ℕ) → Upto 55 (shown_of area place)
+unfolding record_at
+shown-short area place = omega (arith, bytes-short "ok record=" (record_at area place) 10, length-take 10 (drop (10 * place) area))
+
+heard-short : (ring : Ring) (nth : ℕ) (area : List ℕ) (q : Result Asked Unreadable) → Upto 55 (heard_of ring nth area q).bytes
+unfolding heard_of
+heard-short ring nth area (Err why) = omega (arith, unreadable-short nth why)
+heard-short ring nth area (Ok (asked.Add bytes)) =
+    let x = added ring area bytes in
+    let h = held-short x.0 in
+    let k = placed-short ring x.0 in
     simp length-append (omega arith)
-
-add-short : (ring : Ring) (nth : ℕ) (area : List ℕ) (x : Spelt) → Brief (add_of ring nth area x)
-unfolding add_of
-add-short ring nth area x =
-    either Brief (eqb x.read.why 0) (either Brief (ltb x.read.value 10) (omega (arith, unreadable-short nth 6)) (placed-short ring (added ring area x.bytes)))
-    (omega (arith, unreadable-short nth x.read.why))
-
-release-short : (ring : Ring) (nth : ℕ) (area : List ℕ) (count : Taken) → Brief (release_of ring nth area count)
-unfolding release_of
-release-short ring nth area count =
-    let x = released ring area count.value in
-    either Brief (eqb count.next.why 0) (omega (arith, held-short x.0 x.1)) (omega (arith, unreadable-short nth count.next.why))
-
-read_short : (ring : Ring) (nth : ℕ) (area : List ℕ) (place : Taken) → Brief (read_of ring nth area place)
-unfolding read_of record_at
-read_short ring nth area place =
-    let ten = record_at area place.value in
-    either (Upto 55) (eqb place.next.why 0) (omega (arith, bytes-short "ok record=" ten 10, length-take 10 (drop (10 * place.value) area))) (omega (arith, unreadable-short nth place.next.why))
-
-named-short : (ring : Ring) (nth : ℕ) (area line : List ℕ) (first : Cursor) (name : ℕ) → Brief (named_of ring nth area line first name)
-unfolding named_of
-named-short ring nth area line first name =
-    either Brief (eqb name 0) (add-short ring nth area (bytes_of line first 10))
-    (either Brief (eqb name 1) (release-short ring nth area (next_of line first 10 (2 ^ 64 - 1)))
-    (either Brief (eqb name 2) (read_short ring nth area (next_of line first 10 5999)) (omega (arith, unreadable-short nth 1))))
+heard-short ring nth area (Ok (asked.Release count)) = omega (arith, held-short (released ring area count).0)
+heard-short ring nth area (Ok (asked.Read place)) = shown-short area place
 
 pub short : Short
-unfolding log_line
-short ring nth line at area =
-    let start = skip_of line at in
-    let end = find_of line start 32 in
-    either Brief (eqb start (length line)) (omega (arith, unreadable-short nth 4))
-    (named-short ring nth area line (exactly_of line end 1) (place_of (text "add release read") (between line start end)))
+short ring nth line at area = heard-short ring nth area (asked_of line at)

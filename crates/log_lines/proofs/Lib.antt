@@ -1,2 +1,1 @@
-pub mod Logging
 pub mod Claims

@@ -1,17 +1,17 @@
 -- The answers of a log's lines (docs/SCRIPT.md, "The door and the log"), the log that they leave and every byte of its area.
-use Rattle.std.specs.Prelude.{ℕ, ◌-◌, ◌^◌, cond, List, [], ◌++◌, ◌≡◌, eqb, ltb, length}
+use Rattle.std.specs.Prelude.{ℕ, List, [], ◌++◌, ◌≡◌, Result, Ok, Err}
+use Rattle.std.specs.Result.{result_unwrap_or}
 use Rattle.figures.specs.Figures.{text, number}
-use Rattle.words.specs.Words.{skip_of, find_of, place_of, exactly_of}
-use Rattle.words.specs.Numbers.{between, next_of}
-use Rattle.words.specs.declared.Cursor.{Cursor}
-use Rattle.words.specs.declared.Taken.{Taken}
+use Rattle.words.specs.declared.Unreadable.{Unreadable}
 use Rattle.page.specs.Page.{Puts, unreadable_of}
 use Rattle.records.specs.Records.{record_at}
-use Rattle.display.specs.Answers.{bytes_of as shownOf}
-use Rattle.digits.specs.Spelling.{Spelt, bytes_of}
-use Rattle.record_ring.specs.Log.{Valid, added, released}
+use Rattle.display.specs.Answers.{bytes_of}
+use Rattle.record_ring.specs.Log.{Valid, refusal_number, added, released}
 use Rattle.record_ring.specs.declared.Ring.{Ring}
-use Rattle.log_lines.specs.declared.Left.{Left}
+use Rattle.record_ring.specs.declared.Refusal.{Refusal}
+use Rattle.log_lines.specs.declared.asked.Asked.{Asked}
+use Rattle.log_lines.specs.declared.asked.Asked.TheVariants as asked
+use Rattle.log_lines.specs.Asked.{asked_of}
 
 -- what a line leaves: the log, its area, and the answer's bytes
 pub record Lined : Type 0 where
@@ -24,55 +24,45 @@ abbrev pub saying : Ring → List ℕ → List ℕ → Lined
 saying ring area bytes = record { ring = ring; area = area; bytes = bytes }
 
 -- "ok held=N", or the refusal's number
-unfoldable pub held_of : ℕ → Ring → List ℕ
-held_of n ring = cond (eqb n 0) (text "ok held=" ++ number ring.held) (text "refused " ++ number n)
+unfoldable pub held_of : Result Ring Refusal → List ℕ
+held_of (Ok after) = text "ok held=" ++ number after.held
+held_of (Err refusal) = text "refused " ++ number (refusal_number refusal)
+
+-- "and the place that the record took"
+unfoldable pub placed_of : Ring → Result Ring Refusal → List ℕ
+placed_of ring (Ok after) = text " place=" ++ number ring.next
+placed_of ring (Err refusal) = []
+
+-- a call leaves its log where it is accepted, else the log as it was
+abbrev pub left_by : Ring → Result Ring Refusal × List ℕ → List ℕ → Lined
+left_by ring x bytes = record { ring = result_unwrap_or x.0 ring; area = x.1; bytes = bytes }
 
 -- "after add: how many are held, and the place that the record took"
-unfoldable pub placed_by : Ring → ℕ × Ring × List ℕ → Lined
-placed_by ring x = saying x.1 x.2 (held_of x.0 x.1 ++ cond (eqb x.0 0) (text " place=" ++ number ring.next) [])
-
 abbrev pub added_of : Ring → List ℕ → List ℕ → Lined
-added_of ring area bytes = placed_by ring (added ring area bytes)
+added_of ring area bytes = let x = added ring area bytes in left_by ring x (held_of x.0 ++ placed_of ring x.0)
 
 -- "after release"
 abbrev pub released_of : Ring → List ℕ → ℕ → Lined
-released_of ring area count = let x = released ring area count in saying x.1 x.2 (held_of x.0 x.1)
-
--- "A record is twenty digits: fewer are a malformed number", 6
-unfoldable pub add_of : Ring → ℕ → List ℕ → Spelt → Lined
-add_of ring nth area x =
-    cond (eqb x.read.why 0)
-    (cond (ltb x.read.value 10) (saying ring area (unreadable_of nth 6)) (added_of ring area x.bytes))
-    (saying ring area (unreadable_of nth x.read.why))
-
--- the oldest released, as many as told
-unfoldable pub release_of : Ring → ℕ → List ℕ → Taken → Lined
-release_of ring nth area count =
-    cond (eqb count.next.why 0) (released_of ring area count.value) (saying ring area (unreadable_of nth count.next.why))
+released_of ring area count = let x = released ring area count in left_by ring x (held_of x.0)
 
 -- "after read: the place's ten bytes"
-unfoldable pub read_of : Ring → ℕ → List ℕ → Taken → Lined
-read_of ring nth area place =
-    saying ring area (cond (eqb place.next.why 0) (shownOf (text "ok record=") (record_at area place.value) 10) (unreadable_of nth place.next.why))
+abbrev pub shown_of : List ℕ → ℕ → List ℕ
+shown_of area place = bytes_of (text "ok record=") (record_at area place) 10
 
--- "more a number too large, and so is a place over 5,999"; "unknown command" is 1
-unfoldable pub named_of : Ring → ℕ → List ℕ → List ℕ → Cursor → ℕ → Lined
-named_of ring nth area line first name =
-    cond (eqb name 0) (add_of ring nth area (bytes_of line first 10))
-    (cond (eqb name 1) (release_of ring nth area (next_of line first 10 (2 ^ 64 - 1)))
-    (cond (eqb name 2) (read_of ring nth area (next_of line first 10 5999)) (saying ring area (unreadable_of nth 1))))
+-- what a line asks for, or why it cannot be read
+unfoldable pub heard_of : Ring → ℕ → List ℕ → Result Asked Unreadable → Lined
+heard_of ring nth area (Err why) = saying ring area (unreadable_of nth why)
+heard_of ring nth area (Ok (asked.Add bytes)) = added_of ring area bytes
+heard_of ring nth area (Ok (asked.Release count)) = released_of ring area count
+heard_of ring nth area (Ok (asked.Read place)) = saying ring area (shown_of area place)
 
--- by its name, from the place after `log`: "missing word" is 4
-unfoldable pub log_line : Ring → ℕ → List ℕ → ℕ → List ℕ → Lined
-log_line ring nth line at area =
-    let start = skip_of line at in
-    let end = find_of line start 32 in
-    cond (eqb start (length line)) (saying ring area (unreadable_of nth 4))
-    (named_of ring nth area line (exactly_of line end 1) (place_of (text "add release read") (between line start end)))
+-- a line, from the place after its name
+abbrev pub log_line : Ring → ℕ → List ℕ → ℕ → List ℕ → Lined
+log_line ring nth line at area = heard_of ring nth area (asked_of line at)
 
 -- what the code leaves is what the line's definition says; its log is valid
-pub record Leaves (x : Lined) (old : List ℕ) (from : ℕ) (new : List ℕ) (after : List ℕ) (r : Left) : Type 0 where
-  pub ring : r.ring ≡ x.ring
+pub record Leaves (x : Lined) (old new after : List ℕ) (r : Ring) : Type 0 where
+  pub ring : r ≡ x.ring
   pub area : after ≡ x.area
-  pub puts : Puts old from new r.at x.bytes
-  pub valid : Valid r.ring
+  pub puts : Puts old new x.bytes
+  pub valid : Valid r

@@ -9,6 +9,7 @@ use lib.ListN.{length, take, drop, length-append}
 use lib.Seq.{sets, sets-eq, length-sets, length-take-le, take_at, drop_at, drop-drop}
 use lib.Dec.{leb}
 use borrow.Author.Tests.{le-leb, lt-leb}
+use Rattle.std.specs.Prelude.{Some, None}
 use Rattle.records.specs.Records.{record_of}
 use Rattle.records.proofs.Records.{record-length, records-one}
 use Rattle.time.specs.Units.{cycle_at}
@@ -84,27 +85,27 @@ module _ {m₀ : Moving} {from end : ℕ} {before : List ℕ} {m : Moving} {at t
         ∙ ap (λ (k : ℕ). ticks (within before) k (standing m at to area)) (sym n)
         ∙ g.rest
 
-    pub near-cycle : cycle_at oscillator (at + gap_of m + 1) < 2 ^ 64
-    near-cycle = let l = loud-gap (end - at) m h in let u = g.ready.cycles in let c = cycle-mono oscillator (at + gap_of m + 1) end (omega arith) in omega arith
+    pub near_cycle : {next : ℕ} → next ≡ at + gap_of m + 1 → cycle_at oscillator next < 2 ^ 64
+    near_cycle {next} en = let l = loud-gap (end - at) m h in let u = g.ready.cycles in let c = cycle-mono oscillator next end (omega arith) in omega arith
 
     -- the time-out's record was written
-    pub turned : {cycle : ℕ} {area₁ : List ℕ} → 10 ≤ length area - to → cycle ≡ cycle_at oscillator (at + gap_of m + 1) → area₁ ≡ sets area to (record_of cycle (timeout m))
-        → Going m₀ from end before (timed_out m) (at + gap_of m + 1) (to + 10) area₁
-    turned {cycle} {area₁} f ec er =
+    pub turned : {next cycle : ℕ} {area₁ : List ℕ} → 10 ≤ length area - to → next ≡ at + gap_of m + 1 → cycle ≡ cycle_at oscillator next → area₁ ≡ sets area to (record_of cycle (timeout m))
+        → Going m₀ from end before (timed_out m) next (to + 10) area₁
+    turned {next} {cycle} {area₁} f en ec er =
         let l = loud-gap (end - at) m h in
         let long = g.long in
         let b = g.bytes in
         let vs : List ℕ = record_of (cycle_at oscillator (at + gap_of m + 1)) (timeout m) in
         let e : length vs ≡ 10 = record-length (cycle_at oscillator (at + gap_of m + 1)) (timeout m) in
         let k : to + length vs ≤ length area = omega arith in
-        let er₁ : area₁ ≡ sets area to vs = er ∙ rw ec in
+        let er₁ : area₁ ≡ sets area to vs = er ∙ rw (ec, en) in
         let by : take (to + 10) area₁ ≡ take to area ++ vs = rw (er₁, ← e) (stored-take area vs to k) in
         let dr : drop (to + 10) area₁ ≡ drop (to + 10) area = rw (er₁, ← e) (stored-drop area vs to k) in
         let fi : within before (length (take to area ++ vs)) ≡ true = le-leb _ (length before) (let z = stored-length area vs to k in omega arith) in
         let od = one-loud (within before) m at (take to area) (loud-runs (end - at) m h) fi in
-        let n : end - at - suc (gap_of m) ≡ end - (at + gap_of m + 1) = omega arith in
+        let n : end - at - suc (gap_of m) ≡ end - next = omega arith in
         record {
-          rest = rw (by, ← n) (sym (ap (ticks (within before) (end - at - suc (gap_of m))) od) ∙ next-run);
+          rest = rw (by, ← n, en) (sym (ap (ticks (within before) (end - at - suc (gap_of m))) od) ∙ next-run);
           left = dr ∙ sym (drop-drop 10 to area) ∙ ap (drop 10) g.left ∙ drop-drop 10 to before;
           ready = record { sound = timed-out-sound m g.ready.sound; upto = omega arith; cycles = g.ready.cycles };
           bytes = omega arith;
@@ -112,9 +113,9 @@ module _ {m₀ : Moving} {from end : ℕ} {before : List ℕ} {m : Moving} {at t
         }
 
     -- or does not fit
-    pub halted : {moving : Moving} → length area - to < 10 → moving ≡ linear (gap_of m) m
-        → Finishes m₀ from end before (record { moving = moving; at = record { 0 = at + gap_of m }; to = to; paused = true }) area
-    halted {moving} f em =
+    pub halted : {moving : Moving} {last : ℕ} → length area - to < 10 → moving ≡ linear (gap_of m) m → last ≡ at + gap_of m
+        → Finishes m₀ from end before (record { moving = moving; written = to; paused = Some (record { 0 = last }) }) area
+    halted {moving} {last} f em el =
         let l = loud-gap (end - at) m h in
         let long = g.long in
         let e : length (record_of (cycle_at oscillator (at + gap_of m + 1)) (timeout m)) ≡ 10 = record-length (cycle_at oscillator (at + gap_of m + 1)) (timeout m) in
@@ -124,7 +125,7 @@ module _ {m₀ : Moving} {from end : ℕ} {before : List ℕ} {m : Moving} {at t
           run = sym next-run
               ∙ ap (ticks (within before) (end - at - suc (gap_of m))) (one-stops (within before) m at (take to area) (loud-runs (end - at) m h) no)
               ∙ ticks-paused (within before) (end - at - suc (gap_of m)) _ refl
-              ∙ rw em;
+              ∙ rw (em, el);
           left = g.left;
           room = g.bytes;
           upto = omega arith;
@@ -132,7 +133,7 @@ module _ {m₀ : Moving} {from end : ℕ} {before : List ℕ} {m : Moving} {at t
 
   -- or no time-out is left
   pub ended : {moving : Moving} → is_quiet (end - at) m ≡ true → moving ≡ linear (end - at) m
-      → Finishes m₀ from end before (record { moving = moving; at = record { 0 = end }; to = to; paused = false }) area
+      → Finishes m₀ from end before (record { moving = moving; written = to; paused = None }) area
   ended {moving} h em =
       let u = g.ready.upto in
       let c : at + (end - at) ≡ end = omega arith in

@@ -1,23 +1,18 @@
 -- A cycle that no time-out lies at or before is one quiet step away.
-use Prim.Native.Nat.{ℕ, ◌+◌, ◌-◌, ◌/◌, ◌≤◌, ◌<◌, ◌^◌}
+use Prim.Native.Nat.{ℕ, ◌+◌, ◌/◌, ◌≤◌, ◌<◌, ◌^◌}
 use native.Mathlib.Omega.{arith}
 use native.Mathlib.Nat.{div-lt_iff_lt-mul, le-div_iff_mul-le}
-use mathlib.Core.Path.{◌≡◌, refl, sym, ap, ◌∙◌}
-use mathlib.Core.Bool.{Bool, true, false, cond, ◌&&◌}
-use lib.Dec.{leb}
+use mathlib.Core.Path.{◌≡◌, refl}
+use mathlib.Core.Bool.{Bool, true, false}
 use borrow.Author.Tests.{leb-false, le-leb}
-use Rattle.time.specs.declared.units.Cycle.{Cycle}
-use Rattle.time.specs.declared.units.Prescaler.{Prescaler}
 use Rattle.time.specs.Units.{ticks_at, cycle_at}
 use Rattle.time.proofs.Clocks.{ticks-mono}
-use Rattle.wdtcsr.specs.declared.state.Moving.{Moving}
 use Rattle.wdtcsr.specs.State.{running}
 use Rattle.wdtcsr.specs.Timeouts.{linear, gap_of, is_quiet}
 use Rattle.wdtcsr.proofs.Bounds.{gap-small}
-use Rattle.oscillator.specs.declared.next.Next.TheVariants.{At, Never}
 use Rattle.oscillator.specs.declared.state.Watchdog.{Watchdog}
 use Rattle.oscillator.specs.State.{moving_to, synced_at, Valid}
-use Rattle.oscillator.specs.Oscillator.{oscillator, ticks, quiet, due, start, sync_of, passed, run_of, synced, next_at, next_of, is_due}
+use Rattle.oscillator.specs.Oscillator.{oscillator, ticks, quiet, due, start, sync_of, passed, run_of, synced, next_at, is_due}
 use Rattle.oscillator.proofs.Runs.{quiet-ticks}
 
 -- the ticks up to a cycle before the next event are within the gap
@@ -63,46 +58,5 @@ pub synced-is : (w : Watchdog) (cycle : ℕ) → is_due w cycle ≡ false → sy
 unfolding synced passed run_of start quiet sync_of
 synced-is w cycle h = rw (quiet-ticks (λ k. true) (due w cycle) (start w) refl refl (quiet-due w cycle h))
 
--- ---- what the code's parts say
-module _ (w : Watchdog) {a g : ℕ} (ea : a ≡ ticks_at oscillator w.sync.0) (eg : g ≡ gap_of w.moving) where
-  pub next-tick : Valid w → a + (g + 1) < 2 ^ 64
-  next-tick v = let h = next_small w v in omega arith
-
-  pub next-cycle : {p : Prescaler} → p ≡ oscillator → Valid w → cycle_at p (a + (g + 1)) < 2 ^ 64
-  unfolding next_at
-  next-cycle e v = rw (e, ea, eg) (next_fits w v)
-
-  pub next-is : {p : Prescaler} {x : Cycle} {b : Bool} → p ≡ oscillator → x.0 ≡ cycle_at p (a + (g + 1)) → b ≡ running w.moving → b ≡ true → At x ≡ next_of w
-  unfolding next_of next_at
-  next-is {p} {x} {b} e h r t =
-      let q : x.0 ≡ cycle_at oscillator (ticks_at oscillator w.sync.0 + (gap_of w.moving + 1)) = h ∙ rw (e, ea, eg) in
-      simp (← r, t) (ap (λ (k : ℕ). At (record { 0 = k })) q)
-
-module _ (w : Watchdog) (cycle : ℕ) {a b : ℕ} (ea : a ≡ ticks_at oscillator w.sync.0) (eb : b ≡ ticks_at oscillator cycle) where
-  pub first-last : w.sync.0 ≤ cycle → a ≤ b
-  first-last h = let m = ticks-mono oscillator w.sync.0 cycle (omega arith) h in omega arith
-
-  pub still : is_due w cycle ≡ false → is_quiet (b - a) w.moving ≡ true
-  unfolding due
-  still h = rw (ea, eb) (quiet-due w cycle h)
-
-  pub syncs : {m : Moving} {x r : Watchdog} → is_due w cycle ≡ false → m ≡ linear (b - a) w.moving → x ≡ moving_to w m → r ≡ synced_at x cycle → r ≡ synced ticks w cycle
-  unfolding due
-  syncs h em ex er = er ∙ rw (ex, em, ea, eb) (sym (synced-is w cycle h))
-
--- ---- whether it is due
-pub event-due : (w : Watchdog) (cycle : ℕ) {at : Cycle} → At at ≡ next_of w → leb at.0 cycle ≡ is_due w cycle
-unfolding next_of is_due
-event-due w cycle {at} e = go (running w.moving) e
-  where
-    go : (b : Bool) → At at ≡ cond b (At (record { 0 = next_at w })) Never → leb at.0 cycle ≡ b && leb (next_at w) cycle
-    go true h = let z : at ≡ record { 0 = next_at w } = cc in rw z
-    go false h = cc
-
-pub never-due : (w : Watchdog) (cycle : ℕ) → Never ≡ next_of w → false ≡ is_due w cycle
-unfolding next_of is_due
-never-due w cycle e = go (running w.moving) e
-  where
-    go : (b : Bool) → Never ≡ cond b (At (record { 0 = next_at w })) Never → false ≡ b && leb (next_at w) cycle
-    go true h = cc
-    go false h = refl
+-- what a step to such a cycle goes by
+pub ruleset sync_steps = (ticks-mono, quiet-due, synced-is)

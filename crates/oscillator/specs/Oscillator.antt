@@ -1,7 +1,9 @@
 -- The oscillator's ticks, and two ways to let time pass: tick by tick, and from time-out to time-out (02, 2.8; the sheet, "Watchdog Timer").
-use Rattle.std.specs.Prelude.{ℕ, zero, suc, ◌+◌, ◌-◌, ◌≤◌, ◌<◌, ◌^◌, max, ◌≡◌, Bool, true, false, cond, ◌&&◌, List, [], ◌++◌, length, take, drop, leb}
+use Rattle.std.specs.Prelude.{ℕ, zero, suc, ◌+◌, ◌-◌, ◌≤◌, ◌<◌, ◌^◌, max, ◌≡◌, Bool, true, false, cond, ◌&&◌, List, [], ◌++◌, length, take, drop, leb, Option, Some, None, is_some}
 use Rattle.records.specs.Records.{records_of}
+use Rattle.time.specs.declared.units.Cycle.{Cycle}
 use Rattle.time.specs.declared.units.Prescaler.{Prescaler}
+use Rattle.time.specs.declared.units.Ticks.{Ticks}
 use Rattle.time.specs.Units.{ticks_at, cycle_at}
 use Rattle.wdtcsr.specs.declared.state.Moving.{Moving}
 use Rattle.wdtcsr.specs.State.{running, Sound}
@@ -9,8 +11,6 @@ use Rattle.wdtcsr.specs.Timeouts.{Step, tick, linear, gap_of, is_quiet}
 use Rattle.oscillator.specs.declared.state.Watchdog.{Watchdog}
 use Rattle.oscillator.specs.declared.passing.Advanced.{Advanced}
 use Rattle.oscillator.specs.declared.passing.Finished.{Finished}
-use Rattle.oscillator.specs.declared.next.Next.{Next}
-use Rattle.oscillator.specs.declared.next.Next.TheVariants.{At, Never}
 use Rattle.oscillator.specs.State.{moving_to, synced_at}
 
 -- "at each multiple of 125 CPU cycles"
@@ -99,8 +99,8 @@ unfoldable pub next_at : Watchdog → ℕ
 next_at w = cycle_at oscillator (ticks_at oscillator w.sync.0 + (gap_of w.moving + 1))
 
 -- the next event, or none while it is stopped
-unfoldable pub next_of : Watchdog → Next
-next_of w = cond (running w.moving) (At (record { 0 = next_at w })) Never
+unfoldable pub next_of : Watchdog → Option Cycle
+next_of w = cond (running w.moving) (Some (record { 0 = next_at w })) None
 
 -- the next event lies at or before a cycle
 unfoldable pub is_due : Watchdog → ℕ → Bool
@@ -114,16 +114,21 @@ pub record Ready (m : Moving) (from end : ℕ) : Type 0 where
   pub upto : from ≤ end
   pub cycles : cycle_at oscillator end < 2 ^ 62
 
+-- its last tick: the end, or the one where it stopped
+abbrev pub last_of : ℕ → Option Ticks → ℕ
+last_of end None = end
+last_of end (Some at) = at.0
+
 -- where it ended is where the run by ticks ends, its bytes in the area
 pub record Finishes (m : Moving) (from end : ℕ) (before : List ℕ) (r : Finished) (after : List ℕ) : Type 0 where
-  pub run : ticks (λ k. leb k (length before)) (end - from) (begin m from) ≡ record { moving = r.moving; at = r.at.0; bytes = take r.to after; paused = r.paused }
-  pub left : drop r.to after ≡ drop r.to before
-  pub room : r.to ≤ length before
-  pub upto : r.at.0 ≤ end
+  pub run : ticks (λ k. leb k (length before)) (end - from) (begin m from) ≡ record { moving = r.moving; at = last_of end r.paused; bytes = take r.written after; paused = is_some r.paused }
+  pub left : drop r.written after ≡ drop r.written before
+  pub room : r.written ≤ length before
+  pub upto : last_of end r.paused ≤ end
 
--- an advance: the watchdog, the bytes written, whether it stopped, and every byte of the area are those of the run by ticks
+-- an advance: the watchdog, the bytes written, whether it stopped, then with its sync cycle, and every byte of the area are those of the run by ticks
 pub record Advances (w : Watchdog) (cycle : ℕ) (before : List ℕ) (r : Advanced) (after : List ℕ) : Type 0 where
   pub watchdog : r.watchdog ≡ passed w cycle (run_of ticks w cycle (λ k. leb k (length before)))
   pub written : r.written ≡ length (run_of ticks w cycle (λ k. leb k (length before))).bytes
-  pub paused : r.paused ≡ (run_of ticks w cycle (λ k. leb k (length before))).paused
+  pub paused : r.paused ≡ cond (run_of ticks w cycle (λ k. leb k (length before))).paused (Some r.watchdog.sync) None
   pub area : after ≡ (run_of ticks w cycle (λ k. leb k (length before))).bytes ++ drop (length (run_of ticks w cycle (λ k. leb k (length before))).bytes) before

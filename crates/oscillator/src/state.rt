@@ -20,15 +20,9 @@ impl Watchdog {
     pub fn new() -> Watchdog
         ensures { (result ≡ fresh) × Valid result }
     {
-        let control = Control {
-            wdif: false,
-            wdie: false,
-            wde: false,
-            wdp: 0,
-        };
         let moving = Moving {
             count: 0,
-            control,
+            control: Control::default(),
             window: Window::shut(),
         };
         Watchdog {
@@ -42,28 +36,27 @@ impl Watchdog {
     pub fn with(self, moving: Moving) -> Watchdog
         ensures { result ≡ moving_to self moving }
     {
-        let mut w = self;
-        w.moving = moving;
-        w
+        Watchdog { moving, ..self }
     }
 
     // Time has passed up to a cycle; the latest never falls.
     pub fn synced(self, cycle: Cycle) -> Watchdog
         ensures { result ≡ synced_at self cycle.0 }
     {
-        let latest = self.latest;
-        let mut w = self;
-        w.sync = cycle;
-        w.latest = latest.later(cycle);
-        w
+        Watchdog {
+            sync: cycle,
+            latest: self.latest.later(cycle),
+            ..self
+        }
     }
 
     // An accepted call's cycle is the latest.
     pub fn accepted(self, cycle: Cycle) -> Watchdog
         ensures { result ≡ accepted_at self cycle.0 }
     {
-        let mut w = self;
-        w.latest = cycle;
-        w
+        Watchdog {
+            latest: cycle,
+            ..self
+        }
     }
 }

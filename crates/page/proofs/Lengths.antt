@@ -5,8 +5,9 @@ use native.Mathlib.Omega.{arith}
 use mathlib.Core.Bool.{Bool, true, false, cond}
 use mathlib.Core.List.{List, ◌++◌}
 use mathlib.Core.Path.{◌≡◌, refl}
-use lib.Dec.{eqb}
 use lib.ListN.{length, length-append}
+use Rattle.words.specs.declared.Unreadable.{Unreadable}
+use Rattle.words.specs.declared.Unreadable.TheVariants as unreadable
 use Rattle.figures.specs.Figures.{codes, number}
 use Rattle.figures.proofs.Writing.{number_short}
 use Rattle.page.specs.Page.{last_digits, pair, pattern, flag, reason_of, unreadable_of}
@@ -51,19 +52,19 @@ pub either : {A : Type 0} (Q : A → Type 0) (b : Bool) {x y : A} → Q x → Q 
 either Q true h k = h
 either Q false h k = k
 
-reason-short : (why : ℕ) → Upto 18 (reason_of why)
+reason-short : (why : Unreadable) → Upto 18 (reason_of why)
 unfolding reason_of
-reason-short why =
-    either (Upto 18) (eqb why 1) (said _ (omega arith))
-    (either (Upto 18) (eqb why 2) (said _ (omega arith))
-    (either (Upto 18) (eqb why 3) (said _ (omega arith))
-    (either (Upto 18) (eqb why 4) (said _ (omega arith))
-    (either (Upto 18) (eqb why 5) (said _ (omega arith))
-    (either (Upto 18) (eqb why 6) (said _ (omega arith))
-    (either (Upto 18) (eqb why 7) (said _ (omega arith))
-    (either (Upto 18) (eqb why 9) (said _ (omega arith)) (said _ (omega arith)))))))))
+reason-short unreadable.UnknownCommand = said _ (omega arith)
+reason-short unreadable.UnknownKey = said _ (omega arith)
+reason-short unreadable.UnknownName = said _ (omega arith)
+reason-short unreadable.MissingWord = said _ (omega arith)
+reason-short unreadable.ExtraWord = said _ (omega arith)
+reason-short unreadable.Malformed = said _ (omega arith)
+reason-short unreadable.TooLarge = said _ (omega arith)
+reason-short unreadable.TooLong = said _ (omega arith)
+reason-short unreadable.NotOpened = said _ (omega arith)
 
-pub unreadable-short : (nth why : ℕ) → Upto 49 (unreadable_of nth why)
+pub unreadable-short : (nth : ℕ) (why : Unreadable) → Upto 49 (unreadable_of nth why)
 unfolding unreadable_of
 unreadable-short nth why =
     let h = number_short nth in

@@ -1,42 +1,47 @@
 -- Laws of pages: bytes one after the other, and the texts that they make.
 use Prim.Native.Nat.{ℕ, ◌+◌, ◌≤◌, ◌<◌, ◌^◌}
 use native.Mathlib.Omega.{arith}
-use mathlib.Core.Path.{refl, sym, ap, ◌∙◌}
+use mathlib.Core.Path.{◌≡◌, refl, sym, ap, ◌∙◌}
 use mathlib.Core.List.{List, [], ◌∷◌, ◌++◌, foldl-append}
 use borrow.Author.Tests.{lt-ltb, le-ltb}
-use lib.ListN.{length, set, take, get_or}
-use lib.Seq.{take-suc, take_all}
+use lib.ListN.{length, take, set, get_or}
+use lib.Seq.{take-suc, take-suc-set, take_all, length-take-le}
 use native.Mathlib.Numerals.{add-one}
 use Rattle.figures.specs.Figures.{decimal}
 use Rattle.figures.proofs.Writing.{decimal-length}
-use Rattle.page.specs.Page.{Sheet, sheet, size, put, puts, Puts}
+use Rattle.page.specs.Page.{size, put, puts, Puts}
 
 -- a byte where a page has room
-pub put-here : (page : List ℕ) (at b : ℕ) → at < size → Puts page at (set page at b) (at + 1) (b ∷ [])
+pub put_here : (page : List ℕ) (b : ℕ) → length page < size → Puts page (page ++ b ∷ []) (b ∷ [])
 unfolding put
-put-here page at b h = record { after = rw (lt-ltb at size h) }
+put_here page b h = record { after = rw (lt-ltb (length page) size h) }
+
+-- the same byte stored behind those that were put
+pub put_at : (bytes : List ℕ) (len b : ℕ) → length bytes ≡ size → len < size → Puts (take len bytes) (take (len + 1) (set bytes len b)) (b ∷ [])
+put_at bytes len b n h =
+    let k : length (take len bytes) ≡ len = length-take-le len bytes (omega (arith, n)) in
+    rw (add-one len, take-suc-set bytes len b (omega (arith, n))) (put_here (take len bytes) b (omega (arith, k)))
 
 -- a byte where it is full
-pub put_full : (page : List ℕ) (at b : ℕ) → size ≤ at → Puts page at page at (b ∷ [])
+pub put_full : (page : List ℕ) (b : ℕ) → size ≤ length page → Puts page page (b ∷ [])
 unfolding put
-put_full page at b h = record { after = rw (le-ltb at size h) }
+put_full page b h = record { after = rw (le-ltb (length page) size h) }
 
 -- none
-pub put-none : (page : List ℕ) (at : ℕ) → Puts page at page at []
-put-none page at = record { after = refl }
+pub put_none : (page : List ℕ) → Puts page page []
+put_none page = record { after = refl }
 
 -- bytes, then others
-pub then : {a b c : List ℕ} {p q r : ℕ} {x y : List ℕ} → Puts a p b q x → Puts b q c r y → Puts a p c r (x ++ y)
-then {a} {p = p} {x = x} {y = y} v w =
-    record { after = w.after ∙ ap (λ (s : Sheet). puts s y) v.after ∙ sym (foldl-append put (sheet a p) x y) }
+pub then : {a b c x y : List ℕ} → Puts a b x → Puts b c y → Puts a c (x ++ y)
+then {a} {x = x} {y = y} v w = record { after = w.after ∙ ap (λ (s : List ℕ). puts s y) v.after ∙ sym (foldl-append put a x y) }
 
 -- one byte more of some
-pub put-more : {a b c : List ℕ} {p q r : ℕ} (l : List ℕ) (i : ℕ) → i < length l → Puts a p b q (take i l) → Puts b q c r (get_or l i 0 ∷ []) → Puts a p c r (take (i + 1) l)
-put-more l i h v w = rw (add-one i, take-suc l i 0 h) (then v w)
+pub put_more : {a b c : List ℕ} (l : List ℕ) (i : ℕ) → i < length l → Puts a b (take i l) → Puts b c (get_or l i 0 ∷ []) → Puts a c (take (i + 1) l)
+put_more l i h v w = rw (add-one i, take-suc l i 0 h) (then v w)
 
 -- all of some
-pub put_all : {a b : List ℕ} {p q : ℕ} (l : List ℕ) (i : ℕ) → length l ≤ i → Puts a p b q (take i l) → Puts a p b q l
-put_all {a} {b} {p} {q} l i h v = rw (take_all i l h) at v
+pub put_all : {a b : List ℕ} (l : List ℕ) (i : ℕ) → length l ≤ i → Puts a b (take i l) → Puts a b l
+put_all {a} {b} l i h v = rw (take_all i l h) at v
 
 -- ---- numbers
 

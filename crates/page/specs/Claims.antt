@@ -1,21 +1,24 @@
--- What is proved of pages beside the functions: bytes that fit are put where they stand, nothing before them is lost, a place short of the page's end says that they fitted, and how long an answer may be.
+-- What is proved of pages beside the functions: bytes that fit are put behind those that stand there, nothing before them is lost, a page never holds more than its size, a page that is not full says that all bytes had room, and how long an answer may be.
 use Rattle.std.specs.Prelude.{ℕ, ◌+◌, ◌≤◌, ◌<◌, ◌≡◌, List, ◌++◌, length, take}
-use Rattle.std.proofs.lemmas.List.Edits.{sets}
-use Rattle.page.specs.Page.{sheet, size, puts, unreadable_of}
+use Rattle.words.specs.declared.Unreadable.{Unreadable}
+use Rattle.page.specs.Page.{size, puts, unreadable_of}
 
--- bytes that fit are put where they stand
+-- bytes that fit are put behind those that stand there, in their order
 abbrev pub Fits : Type 0
-Fits = (page bytes : List ℕ) (at : ℕ) → at + length bytes ≤ size → puts (sheet page at) bytes ≡ sheet (sets page at bytes) (at + length bytes)
+Fits = (page bytes : List ℕ) → length page + length bytes ≤ size → puts page bytes ≡ page ++ bytes
 
--- and the page up to its place is then what stood before it and the bytes, in their order
+-- nothing that stood before is lost, whether the bytes fit or not
 abbrev pub NothingLost : Type 0
-NothingLost = (page bytes : List ℕ) (at : ℕ) → length page ≡ size → at + length bytes ≤ size
-    → take (puts (sheet page at) bytes).at (puts (sheet page at) bytes).page ≡ take at page ++ bytes
+NothingLost = (page bytes : List ℕ) → take (length page) (puts page bytes) ≡ page
 
--- a place before the page's end says that all bytes had room
+-- a page never holds more than its size
+abbrev pub Bounded : Type 0
+Bounded = (page bytes : List ℕ) → length page ≤ size → length (puts page bytes) ≤ size
+
+-- a page that has room left says that all bytes had room
 abbrev pub RoomSeen : Type 0
-RoomSeen = (page bytes : List ℕ) (at : ℕ) → (puts (sheet page at) bytes).at < size → at + length bytes ≤ size
+RoomSeen = (page bytes : List ℕ) → length (puts page bytes) < size → length page + length bytes ≤ size
 
 -- "`error line L: WHY`" has so many bytes at most, for every line and every reason
 abbrev pub Short : Type 0
-Short = (nth why : ℕ) → length (unreadable_of nth why) ≤ 49
+Short = (nth : ℕ) (why : Unreadable) → length (unreadable_of nth why) ≤ 49

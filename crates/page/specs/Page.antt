@@ -1,33 +1,27 @@
 -- Answers as bytes (docs/SCRIPT.md), put one after the other on a page. A page that is full takes no more.
-use Rattle.std.specs.Prelude.{ℕ, zero, suc, ◌+◌, ◌/◌, ◌%◌, ◌≡◌, Bool, cond, eqb, ltb, set}
+use Rattle.std.specs.Prelude.{ℕ, zero, suc, ◌+◌, ◌/◌, ◌%◌, ◌≡◌, Bool, cond, ltb, length}
 use mathlib.Core.List.{List, [], ◌∷◌, ◌++◌, foldl}
+use Rattle.words.specs.declared.Unreadable.{Unreadable}
+use Rattle.words.specs.declared.Unreadable.TheVariants as unreadable
 use Rattle.figures.specs.Figures.{text, number}
 
 -- ---- pages
-
--- a page, and the place of its next byte
-pub record Sheet : Type 0 where
-  pub page : List ℕ
-  pub at : ℕ
-
-abbrev pub sheet : List ℕ → ℕ → Sheet
-sheet page at = record { page = page; at = at }
 
 -- the bytes of a page
 abbrev pub size : ℕ
 size = 32768
 
--- one byte more at its place, unless the page is full
-unfoldable pub put : Sheet → ℕ → Sheet
-put s b = cond (ltb s.at size) (sheet (set s.page s.at b) (s.at + 1)) s
+-- one byte more behind the others, unless the page is full
+unfoldable pub put : List ℕ → ℕ → List ℕ
+put page b = cond (ltb (length page) size) (page ++ b ∷ []) page
 
 -- some bytes more
-abbrev pub puts : Sheet → List ℕ → Sheet
-puts s bytes = foldl put s bytes
+abbrev pub puts : List ℕ → List ℕ → List ℕ
+puts page bytes = foldl put page bytes
 
--- what a page and a place are after some bytes more
-pub record Puts (old : List ℕ) (from : ℕ) (new : List ℕ) (at : ℕ) (bytes : List ℕ) : Type 0 where
-  pub after : sheet new at ≡ puts (sheet old from) bytes
+-- what a page is after some bytes more
+pub record Puts (old new bytes : List ℕ) : Type 0 where
+  pub after : new ≡ puts old bytes
 
 -- ---- numbers
 
@@ -55,17 +49,17 @@ flag b = cond b 49 48 ∷ []
 -- ---- what cannot be read
 
 -- "`error line L: WHY`": the words of each reason
-unfoldable pub reason_of : ℕ → List ℕ
-reason_of why =
-    cond (eqb why 1) (text ": unknown command")
-    (cond (eqb why 2) (text ": unknown key")
-    (cond (eqb why 3) (text ": unknown name")
-    (cond (eqb why 4) (text ": missing word")
-    (cond (eqb why 5) (text ": extra word")
-    (cond (eqb why 6) (text ": malformed number")
-    (cond (eqb why 7) (text ": number too large")
-    (cond (eqb why 9) (text ": file not opened") (text ": line too long"))))))))
+unfoldable pub reason_of : Unreadable → List ℕ
+reason_of unreadable.UnknownCommand = text ": unknown command"
+reason_of unreadable.UnknownKey = text ": unknown key"
+reason_of unreadable.UnknownName = text ": unknown name"
+reason_of unreadable.MissingWord = text ": missing word"
+reason_of unreadable.ExtraWord = text ": extra word"
+reason_of unreadable.Malformed = text ": malformed number"
+reason_of unreadable.TooLarge = text ": number too large"
+reason_of unreadable.TooLong = text ": line too long"
+reason_of unreadable.NotOpened = text ": file not opened"
 
 -- the line
-unfoldable pub unreadable_of : ℕ → ℕ → List ℕ
+unfoldable pub unreadable_of : ℕ → Unreadable → List ℕ
 unreadable_of nth why = text "error line " ++ number nth ++ reason_of why

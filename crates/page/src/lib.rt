@@ -2,52 +2,150 @@
 
 #![tactic(auto)]
 
-ghost use Rattle.std.specs.Prelude.{◌<◌, ◌≡◌, ◌∷◌, [], ◌++◌};
+ghost use Rattle.std.specs.Prelude.{◌≡◌, ◌≤◌, ◌<◌, ℕ, List, [], ◌∷◌, ◌++◌, length, take};
 ghost use Rattle.figures.specs.Figures.{number};
 ghost use Rattle.page.specs.Page.{Puts, hex_digit_ascii, last_digits, pair, pattern, flag, reason_of, unreadable_of};
 
-use words::{
-    EXTRA_WORD, MALFORMED, MISSING_WORD, NOT_OPENED, TOO_LARGE, UNKNOWN_COMMAND, UNKNOWN_KEY,
-    UNKNOWN_NAME,
-};
+use std::marker::Model;
+use words::Unreadable;
 
-// The bytes of a page.
+// The bytes that a page has room for.
 pub const SIZE: usize = 32768;
 
-pub type Page = [u8; SIZE];
-
-// Puts a byte at a place of the page, unless it is full; yields the place after it.
-pub fn byte(page: &mut Page, at: usize, b: u8) -> usize
-    ensures { Puts page.old at page.new result (b ∷ []) }
-{
-    if at < SIZE {
-        page[at] = b;
-        return at + 1;
-    }
-    at
+// Bytes one after the other. A contract sees the bytes that were put, as a list.
+#[derive(Drop)]
+pub struct Page {
+    bytes: [u8; SIZE],
+    len: usize,
 }
 
-// Puts some bytes; yields the place after them.
-pub fn text(page: &mut Page, from: usize, bytes: &[u8]) -> usize
-    ensures { Puts page.old from page.new result bytes.now }
-{
-    let mut at = from;
-    let mut i = 0;
-    while i < bytes.len() {
-        at = byte(page, at, bytes[i]);
-        i += 1;
-    }
-    at
+impl Model for Page {
+    ghost Value = { List ℕ };
+
+    ghost view = { λ p. take p.len p.bytes };
+
+    ghost invariant = { λ p. p.len ≤ 32768 };
 }
 
-// Puts a label and a number's decimal digits; yields the place after them.
-pub fn number(page: &mut Page, from: usize, label: &[u8], n: u64) -> usize
-    ensures { Puts page.old from page.new result (label.now ++ number n) }
-{
-    let mut digits = [0u8; 20];
-    let k = figures::number(&mut digits, 0, n);
-    let at = text(page, from, label);
-    text(page, at, &digits[..k])
+impl Page {
+    // An empty page.
+    pub fn new() -> Page
+        ensures { result ≡ [] }
+    {
+        Page {
+            bytes: [0; SIZE],
+            len: 0,
+        }
+    }
+
+    // How many bytes were put.
+    pub fn len(&self) -> usize
+        ensures { result ≡ length self.now }
+    {
+        self.written().len()
+    }
+
+    // The bytes that were put.
+    pub fn written(&self) -> &[u8]
+        ensures { result.now ≡ self.now }
+    {
+        &self.bytes[..self.len]
+    }
+
+    // Takes back what was put behind a place.
+    pub fn truncate(&mut self, len: usize)
+        ensures { self.new ≡ take len self.old }
+    {
+        if len < self.len {
+            self.len = len;
+        }
+    }
+
+    // Puts a byte, unless the page is full.
+    #[tactic(auto, using(crate::proofs::Sheets::put_here, crate::proofs::Sheets::put_full))]
+    pub fn byte(&mut self, b: u8)
+        ensures { Puts self.old self.new (b ∷ []) }
+    {
+        if self.len < SIZE {
+            self.bytes[self.len] = b;
+            self.len += 1;
+        }
+    }
+
+    // Puts some bytes.
+    #[tactic(auto, using(crate::proofs::Sheets::put_none, crate::proofs::Sheets::put_more, crate::proofs::Sheets::put_all))]
+    pub fn text(&mut self, bytes: &[u8])
+        ensures { Puts self.old self.new bytes.now }
+    {
+        for b in bytes {
+            self.byte(*b);
+        }
+    }
+
+    // Puts a label and a number's decimal digits.
+    pub fn number(&mut self, label: &[u8], n: u64)
+        ensures { Puts self.old self.new (label.now ++ number n) }
+    {
+        let mut digits = [0u8; 20];
+        let k = figures::number(&mut digits, 0, n);
+        self.text(label);
+        self.text(&digits[..k]);
+    }
+
+    // Puts the last k hexadecimal digits of a number.
+    #[tactic(auto, using(crate::proofs::Sheets::then, crate::proofs::Sheets::put_none))]
+    fn last(&mut self, k: u8, n: u64)
+        ensures { Puts self.old self.new (last_digits 16 k n) }
+    {
+        if k > 0 {
+            self.last(k - 1, n / 16);
+            self.byte(glyph((n % 16) as u8));
+        }
+    }
+
+    // Puts a label and a number's sixteen hexadecimal digits.
+    #[tactic(auto, using(crate::proofs::Sheets::then), unfolding(crate::specs::Page::pattern))]
+    pub fn sixteen(&mut self, label: &[u8], n: u64)
+        ensures { Puts self.old self.new (label.now ++ pattern n) }
+    {
+        self.text(label);
+        self.last(16, n);
+    }
+
+    // Puts a byte's two hexadecimal digits.
+    #[tactic(auto, unfolding(crate::specs::Page::pair))]
+    pub fn two(&mut self, b: u8)
+        ensures { Puts self.old self.new (pair b) }
+    {
+        self.last(2, b as u64);
+    }
+
+    // Puts a label and a register's two digits.
+    #[tactic(auto, using(crate::proofs::Sheets::then))]
+    pub fn register(&mut self, label: &[u8], b: u8)
+        ensures { Puts self.old self.new (label.now ++ pair b) }
+    {
+        self.text(label);
+        self.two(b);
+    }
+
+    // Puts a label and a bit as 0 or 1.
+    #[tactic(auto, using(crate::proofs::Sheets::then), unfolding(crate::specs::Page::flag))]
+    pub fn bit(&mut self, label: &[u8], b: bool)
+        ensures { Puts self.old self.new (label.now ++ flag b) }
+    {
+        self.text(label);
+        self.byte(if b { b'1' } else { b'0' });
+    }
+
+    // Puts that the nth line cannot be read, and why.
+    #[tactic(auto, using(crate::proofs::Sheets::then), unfolding(crate::specs::Page::unreadable_of, figures::specs::Figures::codes))]
+    pub fn unreadable(&mut self, nth: u64, why: Unreadable)
+        ensures { Puts self.old self.new (unreadable_of nth why) }
+    {
+        self.number(b"error line ", nth);
+        self.text(reason(why));
+    }
 }
 
 // The hexadecimal digit of a number below sixteen.
@@ -58,74 +156,20 @@ fn glyph(n: u8) -> u8
     if n < 10 { 48 + n } else { 87 + n }
 }
 
-// Puts the last k hexadecimal digits of a number; yields the place after them.
-fn last(page: &mut Page, from: usize, k: u8, n: u64) -> usize
-    ensures { Puts page.old from page.new result (last_digits 16 k n) }
-{
-    if k == 0 {
-        return from;
-    }
-    let at = last(page, from, k - 1, n / 16);
-    byte(page, at, glyph((n % 16) as u8))
-}
-
-// Puts a label and a number's sixteen hexadecimal digits; yields the place after them.
-pub fn sixteen(page: &mut Page, from: usize, label: &[u8], n: u64) -> usize
-    ensures { Puts page.old from page.new result (label.now ++ pattern n) }
-{
-    let at = text(page, from, label);
-    last(page, at, 16, n)
-}
-
-// Puts a byte's two hexadecimal digits; yields the place after them.
-pub fn two(page: &mut Page, from: usize, b: u8) -> usize
-    ensures { Puts page.old from page.new result (pair b) }
-{
-    let at = byte(page, from, glyph(b / 16));
-    byte(page, at, glyph(b % 16))
-}
-
-// Puts a label and a register's two digits; yields the place after them.
-pub fn register(page: &mut Page, from: usize, label: &[u8], b: u8) -> usize
-    ensures { Puts page.old from page.new result (label.now ++ pair b) }
-{
-    let at = text(page, from, label);
-    two(page, at, b)
-}
-
-// Puts a label and a bit as 0 or 1; yields the place after them.
-pub fn bit(page: &mut Page, from: usize, label: &[u8], b: bool) -> usize
-    ensures { Puts page.old from page.new result (label.now ++ flag b) }
-{
-    let at = text(page, from, label);
-    if b {
-        byte(page, at, b'1')
-    } else {
-        byte(page, at, b'0')
-    }
-}
-
-// Puts why a line cannot be read.
-fn reason(page: &mut Page, at: usize, why: u8) -> usize
-    ensures { Puts page.old at page.new result (reason_of why) }
+// The words of why a line cannot be read.
+#[tactic(auto, unfolding(crate::specs::Page::reason_of, figures::specs::Figures::codes))]
+fn reason(why: Unreadable) -> &'static [u8]
+    ensures { result.now ≡ reason_of why }
 {
     match why {
-        UNKNOWN_COMMAND => text(page, at, b": unknown command"),
-        UNKNOWN_KEY => text(page, at, b": unknown key"),
-        UNKNOWN_NAME => text(page, at, b": unknown name"),
-        MISSING_WORD => text(page, at, b": missing word"),
-        EXTRA_WORD => text(page, at, b": extra word"),
-        MALFORMED => text(page, at, b": malformed number"),
-        TOO_LARGE => text(page, at, b": number too large"),
-        NOT_OPENED => text(page, at, b": file not opened"),
-        _ => text(page, at, b": line too long"),
+        Unreadable::UnknownCommand => b": unknown command",
+        Unreadable::UnknownKey => b": unknown key",
+        Unreadable::UnknownName => b": unknown name",
+        Unreadable::MissingWord => b": missing word",
+        Unreadable::ExtraWord => b": extra word",
+        Unreadable::Malformed => b": malformed number",
+        Unreadable::TooLarge => b": number too large",
+        Unreadable::TooLong => b": line too long",
+        Unreadable::NotOpened => b": file not opened",
     }
-}
-
-// Puts that the nth line cannot be read, and why; yields the place after that.
-pub fn unreadable(page: &mut Page, from: usize, nth: u64, why: u8) -> usize
-    ensures { Puts page.old from page.new result (unreadable_of nth why) }
-{
-    let at = number(page, from, b"error line ", nth);
-    reason(page, at, why)
 }

@@ -5,14 +5,13 @@ use mathlib.Core.Path.{◌≡◌, refl, sym, ap, ◌∙◌}
 use mathlib.Core.List.{List, [], ◌∷◌, ◌++◌, append-nil}
 use lib.Dec.{eqb}
 use lib.ListN.{length, take, drop, length-drop, take-append-drop}
-use lib.Seq.{take-add, length-take-le, take_all, drop-length, get_or-drop}
+use lib.Seq.{take-add, length-take-le, take_all, get_or-drop}
 use borrow.Author.Tests.{lt-ltb, lt-leb}
 use Rattle.records.specs.Records.{record_at, number_of}
 use Rattle.pieces.specs.declared.Part.{Part}
-use Rattle.pieces.specs.declared.Whole.{Whole}
-use Rattle.pieces.specs.Pieces.{start, shifted, part_after, wholes, whole_in, wholes_in, Bytes}
+use Rattle.pieces.specs.Pieces.{start, shifted, part_after, wholes, wholes_in, Bytes, IsRecord}
 use Rattle.pieces.specs.Claims.{CutAnywhere, OfALog}
-use Rattle.pieces.proofs.Cuts.{part-append, wholes-append, ten-parts, ten-records}
+use Rattle.pieces.proofs.Cuts.{part-append, wholes-append, ten_bytes}
 
 pub cut-anywhere : CutAnywhere
 cut-anywhere p a b = (part-append p a b, wholes-append p a b)
@@ -52,18 +51,8 @@ bytes_drop : (n : ℕ) (l : List ℕ) → Bytes l → Bytes (drop n l)
 bytes_drop n l h k = rw (get_or-drop n l k 0) (h (n + k))
 
 -- ten bytes after whole records
-module _ (p : Part) (r : List ℕ) (e : p.have ≡ 0) (l : length r ≡ 10) (k : Bytes r) where
-  none_left : drop 10 r ≡ []
-  none_left = ap (λ (n : ℕ). drop n r) (sym l) ∙ drop-length r
-
-  two-left : number_of (drop 8 r) ≡ number_of (take 2 (drop 8 r))
-  two-left = ap number_of (sym (take_all 2 (drop 8 r) (simp length-drop (omega arith))))
-
-  record-wholes : wholes p r ≡ whole_in r ∷ []
-  record-wholes = ten-records p r 0 _ _ e (omega arith) k refl two-left ∙ ap (λ (t : List ℕ). whole_in r ∷ wholes (record { have = 0; head = number_of (take 8 r); body = number_of (drop 8 r) }) t) none_left ∙ ap (λ (ws : List Whole). whole_in r ∷ ws) (nothing-wholes _)
-
-  record-have : (part_after p r).have ≡ 0
-  record-have = ap (λ (q : Part). q.have) (ten-parts p r 0 _ _ e (omega arith) k refl two-left ∙ ap (part_after (record { have = 0; head = number_of (take 8 r); body = number_of (drop 8 r) })) none_left ∙ nothing-part _)
+whole-record : (r : List ℕ) → length r ≡ 10 → Bytes r → IsRecord r (record { have = 0; head = number_of (take 8 r); body = number_of (drop 8 r) })
+whole-record r l k = ten_bytes r l k _ _ refl (ap number_of (sym (take_all 2 (drop 8 r) (simp length-drop (omega arith)))))
 
 record-bytes : (log : List ℕ) (n : ℕ) → 10 * n + 10 ≤ length log → length (record_at log n) ≡ 10
 unfolding record_at
@@ -85,8 +74,9 @@ firsts log k (suc n) h =
     let i = firsts log k n (omega arith) in
     let e = record-bytes log n (omega arith) in
     let b = record-bytes-are log n k in
+    let r = whole-record (record_at log n) e b in
     rw (take_more log n, wholes-append start (take (10 * n) log) (record_at log n), part-append start (take (10 * n) log) (record_at log n))
-    (rw (i.0, record-wholes (part_after start (take (10 * n) log)) (record_at log n) i.1 e b) refl, record-have (part_after start (take (10 * n) log)) (record_at log n) i.1 e b)
+    (rw (i.0, r.wholes (part_after start (take (10 * n) log)) i.1) refl, ap (λ (q : Part). q.have) (r.part (part_after start (take (10 * n) log)) i.1))
 
 pub of-a-log : OfALog
 of-a-log log k =

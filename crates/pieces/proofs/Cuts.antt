@@ -2,19 +2,21 @@
 use Prim.Native.Nat.{ℕ, zero, suc, ◌+◌, ◌*◌, ◌/◌, ◌%◌, ◌≤◌, ◌<◌, ◌^◌}
 use native.Mathlib.Omega.{arith}
 use native.Mathlib.Decide.{dec_le}
-use native.Mathlib.Numerals.{towards_suc, add-one}
 use mathlib.Core.Path.{◌≡◌, refl, ap, ◌∙◌}
-use mathlib.Core.Bool.{Bool, true, false}
+use mathlib.Core.Bool.{cond, Bool, true, false}
 use mathlib.Core.List.{List, [], ◌∷◌, ◌++◌}
-use lib.Dec.{leb}
+use lib.Dec.{eqb, leb, ltb}
 use lib.ListN.{length, get_or, take, drop}
-use lib.Seq.{drop-cons}
-use borrow.Author.Tests.{lt-ltb, le-ltb, lt-leb, le-leb}
+use lib.Seq.{drop-cons, drop-length}
+use borrow.Author.Tests.{eqb-true, ne_eqb, lt-ltb, le-ltb, lt-leb, le-leb}
 use Rattle.records.specs.Records.{number_of}
 use Rattle.records.proofs.Bytes.{bytes_from, two_bytes, eight-bytes}
 use Rattle.pieces.specs.declared.Part.{Part}
 use Rattle.pieces.specs.declared.Whole.{Whole}
-use Rattle.pieces.specs.Pieces.{inside, shifted, part_after, ahead, wholes, Bytes}
+use Rattle.pieces.specs.declared.Records.{Records}
+use Rattle.pieces.specs.Pieces.{between, inside, shifted, part_after, ahead, wholes, Bytes, IsRecord, TakesOne, TakesRest}
+use Rattle.std.specs.Prelude.{Some}
+use Rattle.std.specs.Iterator.{MakesProgress, item_count}
 
 -- ---- a cut anywhere
 
@@ -94,48 +96,92 @@ module _ (h body b0 b1 b2 b3 b4 b5 b6 b7 b8 b9 : ℕ) (q0 : b0 < 256) (q1 : b1 <
   unfolding shifted
   ten-shifted = simp (div-part, mod-part) (ap (λ (x : ℕ). record { have = 0; head = x; body = b8 * 256 + b9 }) (eight-up (up (up h (body / 256)) (body % 256)) b0 b1 b2 b3 b4 b5 b6 b7 q0 q1 q2 q3 q4 q5 q6))
 
-  ten-part : (rest : List ℕ) → part_after (record { have = 0; head = h; body = body }) (b0 ∷ b1 ∷ b2 ∷ b3 ∷ b4 ∷ b5 ∷ b6 ∷ b7 ∷ b8 ∷ b9 ∷ rest) ≡ part_after (tenth b0 b1 b2 b3 b4 b5 b6 b7 b8 b9) rest
+  ten-part : part_after (record { have = 0; head = h; body = body }) (b0 ∷ b1 ∷ b2 ∷ b3 ∷ b4 ∷ b5 ∷ b6 ∷ b7 ∷ b8 ∷ b9 ∷ []) ≡ tenth b0 b1 b2 b3 b4 b5 b6 b7 b8 b9
   unfolding part_after
-  ten-part rest = ap (λ (q : Part). part_after q rest) ten-shifted
+  ten-part = ten-shifted
 
-  ten-wholes : (rest : List ℕ) → wholes (record { have = 0; head = h; body = body }) (b0 ∷ b1 ∷ b2 ∷ b3 ∷ b4 ∷ b5 ∷ b6 ∷ b7 ∷ b8 ∷ b9 ∷ rest)
-      ≡ inside (tenth b0 b1 b2 b3 b4 b5 b6 b7 b8 b9) ∷ wholes (tenth b0 b1 b2 b3 b4 b5 b6 b7 b8 b9) rest
+  ten-wholes : wholes (record { have = 0; head = h; body = body }) (b0 ∷ b1 ∷ b2 ∷ b3 ∷ b4 ∷ b5 ∷ b6 ∷ b7 ∷ b8 ∷ b9 ∷ []) ≡ inside (tenth b0 b1 b2 b3 b4 b5 b6 b7 b8 b9) ∷ []
   unfolding wholes shifted
-  ten-wholes rest = ap (λ (q : Part). inside q ∷ wholes q rest) ten-shifted
+  ten-wholes = ap (λ (q : Part). inside q ∷ []) ten-shifted
 
 -- the bytes from a place on, n of them one by one
-drop-bytes : (n at : ℕ) (l : List ℕ) → at + n ≤ length l → drop at l ≡ bytes_from n at l ++ drop (at + n) l
-drop-bytes zero at l h = let e : at ≡ at + 0 = omega arith in ap (λ (k : ℕ). drop k l) e
-drop-bytes (suc n) at l h =
-    let e : suc at + n ≡ at + suc n = omega arith in
-    drop-cons l at 0 (omega arith) ∙ ap (λ (t : List ℕ). get_or l at 0 ∷ t) (drop-bytes n (suc at) l (omega arith) ∙ ap (λ (k : ℕ). bytes_from n (suc at) l ++ drop k l) e)
+drop-bytes : (n at : ℕ) (l : List ℕ) → at + n ≡ length l → drop at l ≡ bytes_from n at l
+drop-bytes zero at l h = let e : at ≡ length l = omega arith in rw e (drop-length l)
+drop-bytes (suc n) at l h = drop-cons l at 0 (omega arith) ∙ ap (λ (t : List ℕ). get_or l at 0 ∷ t) (drop-bytes n (suc at) l (omega arith))
 
 -- a part at the end of a record
 ended : (p : Part) → p.have ≡ 0 → p ≡ record { have = 0; head = p.head; body = p.body }
 ended p e = ap (λ (n : ℕ). record { have = n; head = p.head; body = p.body }) e
 
 -- ten bytes at once
-module _ (p : Part) (bytes : List ℕ) (at head body : ℕ) (e : p.have ≡ 0) (h : at + 10 ≤ length bytes) (k : Bytes bytes)
-    (f : head ≡ number_of (take 8 (drop at bytes))) (g : body ≡ number_of (take 2 (drop (at + 8) bytes))) where
-  ten-is : tenth (get_or bytes at 0) (get_or bytes (suc at) 0) (get_or bytes (suc (suc at)) 0) (get_or bytes (suc (suc (suc at))) 0) (get_or bytes (suc (suc (suc (suc at)))) 0) (get_or bytes (suc (suc (suc (suc (suc at))))) 0) (get_or bytes (suc (suc (suc (suc (suc (suc at)))))) 0) (get_or bytes (suc (suc (suc (suc (suc (suc (suc at))))))) 0) (get_or bytes (suc (suc (suc (suc (suc (suc (suc (suc at)))))))) 0) (get_or bytes (suc (suc (suc (suc (suc (suc (suc (suc (suc at))))))))) 0)
-      ≡ record { have = 0; head = head; body = body }
-  ten-is = rw (f, g, eight-bytes bytes at (omega arith), two_bytes bytes (at + 8) (omega arith)) (simp towards_suc)
+module _ (r : List ℕ) (l : length r ≡ 10) (k : Bytes r) (head body : ℕ) (f : head ≡ number_of (take 8 r)) (g : body ≡ number_of (take 2 (drop 8 r))) where
+  ten-is : tenth (get_or r 0 0) (get_or r 1 0) (get_or r 2 0) (get_or r 3 0) (get_or r 4 0) (get_or r 5 0) (get_or r 6 0) (get_or r 7 0) (get_or r 8 0) (get_or r 9 0) ≡ record { have = 0; head = head; body = body }
+  ten-is = rw (f, g, eight-bytes r 0 (omega arith), two_bytes r 8 (omega arith)) refl
 
-  pub ten-parts : part_after p (drop at bytes) ≡ part_after (record { have = 0; head = head; body = body }) (drop (at + 10) bytes)
-  ten-parts = rw (drop-bytes 10 at bytes h, ended p e) (ten-part p.head p.body _ _ _ _ _ _ _ _ _ _ (k _) (k _) (k _) (k _) (k _) (k _) (k _) (k _) (k _) (drop (at + 10) bytes) ∙ ap (λ (q : Part). part_after q (drop (at + 10) bytes)) ten-is)
+  pub ten_bytes : IsRecord r (record { have = 0; head = head; body = body })
+  ten_bytes =
+      let all = drop-bytes 10 0 r (omega arith) in
+      record {
+        wholes = λ p e. rw (all, ended p e) (ten-wholes p.head p.body _ _ _ _ _ _ _ _ _ _ (k 0) (k 1) (k 2) (k 3) (k 4) (k 5) (k 6) (k 7) (k 8) ∙ ap (λ (q : Part). inside q ∷ []) ten-is);
+        part = λ p e. rw (all, ended p e) (ten-part p.head p.body _ _ _ _ _ _ _ _ _ _ (k 0) (k 1) (k 2) (k 3) (k 4) (k 5) (k 6) (k 7) (k 8) ∙ ten-is);
+      }
 
-  pub ten-records : wholes p (drop at bytes) ≡ record { head = head; body = body } ∷ wholes (record { have = 0; head = head; body = body }) (drop (at + 10) bytes)
-  ten-records = rw (drop-bytes 10 at bytes h, ended p e) (ten-wholes p.head p.body _ _ _ _ _ _ _ _ _ _ (k _) (k _) (k _) (k _) (k _) (k _) (k _) (k _) (k _) (drop (at + 10) bytes) ∙ ap (λ (q : Part). inside q ∷ wholes q (drop (at + 10) bytes)) ten-is)
+-- ---- a call for the next record
 
--- one byte
-module _ (p : Part) (bytes : List ℕ) (at : ℕ) (h : at < length bytes) where
-  pub one-part : part_after p (drop at bytes) ≡ part_after (shifted p (get_or bytes at 0)) (drop (at + 1) bytes)
-  unfolding part_after
-  one-part = rw (drop-cons bytes at 0 h, add-one at)
+-- what is left of the piece gives the same records and leaves the same part
+pub record SameLeft (r t : Records) : Type 0 where
+  pub wholes : wholes r.part r.rest.now ≡ wholes t.part t.rest.now
+  pub part : part_after r.part r.rest.now ≡ part_after t.part t.rest.now
 
-  pub one-record : wholes p (drop at bytes) ≡ ahead (leb 9 p.have) (inside (shifted p (get_or bytes at 0))) (wholes (shifted p (get_or bytes at 0)) (drop (at + 1) bytes))
+-- a record that is taken leaves one fewer
+pub one-fewer : {r t : Records} {w : Whole} → TakesOne r w t → MakesProgress (λ s. Unit {0}) (item_count (λ s. wholes s.part s.rest.now)) r (Some w) t
+one-fewer one =
+    let fewer = ap length one.wholes in
+    record { on = λ f. (tt, f, omega arith); keeps = tt; rests = λ f. tt }
+
+-- ten bytes and those after them
+pub takes-ten : (r t : Records) {w : Whole} (ten : List ℕ) → IsRecord ten t.part → between r.part ≡ true → r.rest.now ≡ ten ++ t.rest.now → w ≡ inside t.part → TakesOne r w t
+takes-ten r t ten is_record none all same =
+    let have = eqb-true r.part.have 0 none in
+    record {
+      wholes = rw (all, wholes-append, is_record.wholes r.part have, is_record.part r.part have, same);
+      part = rw (all, part-append, is_record.part r.part have);
+    }
+
+-- one byte ends a record where none is begun after it
+ends : (p : Part) (b : ℕ) → leb 9 p.have ≡ between (shifted p b)
+unfolding shifted
+ends p b = go (dec_le 9 p.have)
+  where
+    go : Dec (9 ≤ p.have) → leb 9 p.have ≡ eqb (cond (ltb p.have 9) (p.have + 1) 0) 0
+    go (yes h) = rw (le-leb 9 p.have h, le-ltb p.have 9 h)
+    go (no h) = rw (lt-leb 9 p.have (omega arith), lt-ltb p.have 9 (omega arith), ne_eqb (p.have + 1) 0 (λ q. omega arith))
+
+-- what one byte more leaves
+module _ (r s t : Records) (same : SameLeft r s) (b : ℕ) (all : s.rest.now ≡ b ∷ t.rest.now) (after : t.part ≡ shifted s.part b) where
+  wholes-left : wholes r.part r.rest.now ≡ ahead (between t.part) (inside t.part) (wholes t.part t.rest.now)
   unfolding wholes
-  one-record = rw (drop-cons bytes at 0 h, add-one at)
+  wholes-left = same.wholes ∙ rw (all, after, ends s.part b)
+
+  part-left : part_after r.part r.rest.now ≡ part_after t.part t.rest.now
+  unfolding part_after
+  part-left = same.part ∙ rw (all, after)
+
+  pub takes-byte : {w : Whole} → between t.part ≡ true → w ≡ inside t.part → TakesOne r w t
+  takes-byte ended is = record { wholes = wholes-left ∙ rw (ended, is); part = part-left }
+
+  pub passes-byte : between t.part ≡ false → SameLeft r t
+  passes-byte begun = record { wholes = wholes-left ∙ rw begun; part = part-left }
+
+nothing-left : (l : List ℕ) → length l ≡ 0 → l ≡ []
+nothing-left [] e = refl
+nothing-left (b ∷ l) e = absurd (omega arith)
+
+pub takes-rest : (r t : Records) → SameLeft r t → length t.rest.now ≡ 0 → TakesRest r t
+unfolding wholes part_after
+takes-rest r t same none =
+    let rest = nothing-left t.rest.now none in
+    record { wholes = same.wholes ∙ rw rest; part = same.part ∙ rw rest; rest = rest }
 
 -- ---- how many records: what is begun counts as nine bytes at most
 

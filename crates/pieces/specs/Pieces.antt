@@ -1,9 +1,11 @@
 -- A log that comes in pieces (02, 2.10): what is kept of a record across a cut, and the records that bytes make whole.
-use Rattle.std.specs.Prelude.{ℕ, zero, suc, ◌+◌, ◌*◌, ◌/◌, ◌%◌, ◌≤◌, ◌<◌, ◌^◌, ◌≡◌, Bool, cond, List, [], ◌∷◌, ◌++◌, eqb, ltb, leb, length, get_or, take, drop}
+use Rattle.std.specs.Prelude.{ℕ, zero, suc, ◌+◌, ◌*◌, ◌/◌, ◌%◌, ◌<◌, ◌^◌, ◌≡◌, Bool, cond, List, [], ◌∷◌, ◌++◌, eqb, ltb, leb, get_or, take, drop, Option, None, Some}
 use Rattle.records.specs.Records.{record_at, number_of}
 use Rattle.pieces.specs.declared.Part.{Part}
 use Rattle.pieces.specs.declared.Whole.{Whole}
-use Rattle.pieces.specs.declared.Next.{Next}
+use Rattle.pieces.specs.declared.Records.{Records}
+use Rattle.pieces.specs.declared.Kind.{Kind}
+use Rattle.pieces.specs.declared.Kind.TheVariants as kind
 
 -- before a log's first byte
 abbrev pub start : Part
@@ -13,7 +15,14 @@ start = record { have = 0; head = 0; body = 0 }
 abbrev pub between : Part → Bool
 between p = eqb p.have 0
 
--- a record's kind: the first two bits
+-- a kind's number
+abbrev pub number_of_kind : Kind → ℕ
+number_of_kind kind.Pin = 0
+number_of_kind kind.Flag = 1
+number_of_kind kind.Trigger = 2
+number_of_kind kind.Watchdog = 3
+
+-- the number of a record's kind: the first two bits
 abbrev pub kind_of : Whole → ℕ
 kind_of w = w.head / 2 ^ 62
 
@@ -47,16 +56,26 @@ unfoldable pub wholes : Part → List ℕ → List Whole
 wholes p [] = []
 wholes p (b ∷ bs) = ahead (leb 9 p.have) (inside (shifted p b)) (wholes (shifted p b) bs)
 
--- one byte taken
-abbrev pub Steps : Part → ℕ → ℕ → Next → Type 0
-Steps p b at n = n ≡ record { part = shifted p b; at = at; ends = leb 9 p.have; whole = inside (shifted p b) }
+-- ten bytes are a record where none is begun, and leave none begun
+pub record IsRecord (bytes : List ℕ) (after : Part) : Type 0 where
+  pub wholes : (p : Part) → p.have ≡ 0 → wholes p bytes ≡ inside after ∷ []
+  pub part : (p : Part) → p.have ≡ 0 → part_after p bytes ≡ after
 
--- the next bytes taken, from a place on: at least one, and what is still to come gives the rest of the records
-pub record Cuts (p : Part) (bytes : List ℕ) (at : ℕ) (n : Next) : Type 0 where
-  pub more : at < n.at
-  pub within : n.at ≤ length bytes
-  pub part : part_after p (drop at bytes) ≡ part_after n.part (drop n.at bytes)
-  pub wholes : wholes p (drop at bytes) ≡ ahead n.ends n.whole (wholes n.part (drop n.at bytes))
+-- the next record of a piece, and what is left gives the others
+pub record TakesOne (r : Records) (w : Whole) (t : Records) : Type 0 where
+  pub wholes : wholes r.part r.rest.now ≡ w ∷ wholes t.part t.rest.now
+  pub part : part_after r.part r.rest.now ≡ part_after t.part t.rest.now
+
+-- no record is left, and all the bytes are taken
+pub record TakesRest (r t : Records) : Type 0 where
+  pub wholes : wholes r.part r.rest.now ≡ []
+  pub part : part_after r.part r.rest.now ≡ t.part
+  pub rest : t.rest.now ≡ []
+
+-- a call for the next record
+abbrev pub Takes : Records → Option Whole → Records → Type 0
+Takes r (Some w) t = TakesOne r w t
+Takes r None t = TakesRest r t
 
 -- the record in ten bytes
 abbrev pub whole_in : List ℕ → Whole

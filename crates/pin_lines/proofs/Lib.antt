@@ -1,2 +1,2 @@
-pub mod Pinning
+pub mod Names
 pub mod Claims

@@ -1,6 +1,6 @@
 -- The pins' lines (docs/SCRIPT.md, "Pins and the scheduler"): the keys, the pin and the drive that they say, and the answer's bytes.
-use Rattle.std.specs.Prelude.{ℕ, ◌%◌, Bool, false, cond, List, ◌++◌, eqb, leb, ltb, pos, get_or, set, replicate}
-use Rattle.std.specs.Float.Ieee as Ieee
+use Rattle.std.specs.Prelude.{ℕ, ◌-◌, ◌==◌, Bool, false, cond, List, ◌++◌, pos, set, replicate, slice_index_or, nat_le, Float, Option, Some, None, is_some, unwrap_or, Result, Ok, Err}
+use Rattle.std.specs.Str.{bytes_eq}
 use Rattle.std.specs.Float.{fin, binary64}
 use Rattle.std.specs.Float.Ieee.{to_bits}
 use Rattle.figures.specs.Figures.{text, number}
@@ -8,124 +8,122 @@ use Rattle.page.specs.Page.{pattern, flag, unreadable_of}
 use Rattle.pins.specs.declared.Drive.{Drive}
 use Rattle.pins.specs.declared.Drive.TheVariants as drive
 use Rattle.pins.specs.declared.Pin.{Pin}
-use Rattle.pins.specs.Pins.{Answer, refused, accepted, contention, resolved}
-use Rattle.words.specs.Words.{place_of}
+use Rattle.pins.specs.declared.Refusal.{Refusal}
+use Rattle.pins.specs.declared.Resolved.{Resolved}
+use Rattle.pins.specs.Pins.{number_of, contention, resolved}
+use Rattle.words.specs.declared.Unreadable.{Unreadable}
+use Rattle.words.specs.declared.Unreadable.TheVariants as unreadable
+use Rattle.words.specs.Words.{and_then}
 use Rattle.words.specs.Numbers.{numeral_of}
 use Rattle.words.specs.Decimals.{nearest, volts_of}
+use Rattle.pin_lines.specs.declared.Connection.{Connection}
+use Rattle.pin_lines.specs.declared.Connection.TheVariants as connection
 use Rattle.pin_lines.specs.declared.Keys.{Keys}
-use Rattle.pairs.specs.Pairs.{Kept, stepped, gathered}
+use Rattle.pairs.specs.Pairs.{Kept, gathered}
 
 -- ---- keys
 
--- the value of a key that was not given: its lowest eight bits are the 0 that it stands for
-abbrev pub missing : ℕ
-missing = 256
-
--- keys of such values and volts, stopped or not
-abbrev pub keys_are : List ℕ → Ieee.Float → Ieee.Float → ℕ → Keys
-keys_are values vcc volts why = record { values = values; vcc = vcc; volts = volts; why = why }
-
--- "missing keys are 0, `ext` float, `vcc` 5.0"
+-- before any key
 abbrev pub no_keys : Keys
-no_keys = keys_are (replicate 13 missing) (nearest 5 1) (fin false 0 (pos 0)) 0
+no_keys = record { vcc = None; connection = None; volts = None; bits = replicate 10 None }
 
--- the reading stops
-abbrev pub stopped_of : Keys → ℕ → Keys
-stopped_of k why = keys_are k.values k.vcc k.volts why
+-- "ext=float|low|high|analog", else "unknown name"
+unfoldable pub connection_of : List ℕ → Result Connection Unreadable
+connection_of word =
+    cond (bytes_eq word (text "float")) (Ok connection.Float)
+    (cond (bytes_eq word (text "low")) (Ok connection.Low)
+    (cond (bytes_eq word (text "high")) (Ok connection.High)
+    (cond (bytes_eq word (text "analog")) (Ok connection.Analog) (Err unreadable.UnknownName))))
 
--- vcc, and the volts outside
-abbrev pub supplied_of : Keys → List ℕ → Keys
-supplied_of k word = keys_are (set k.values 0 0) (volts_of word).value k.volts (volts_of word).why
+-- a key with its value; a bit is any decimal byte: the pin turns away what is none
+unfoldable pub taken_of : Keys → ℕ → List ℕ → Result Keys Unreadable
+taken_of k key word =
+    cond (key == 0) (and_then (volts_of word) (λ v. Ok (record { vcc = Some v; connection = k.connection; volts = k.volts; bits = k.bits })))
+    (cond (key == 1) (and_then (connection_of word) (λ c. Ok (record { vcc = k.vcc; connection = Some c; volts = k.volts; bits = k.bits })))
+    (cond (key == 2) (and_then (volts_of word) (λ v. Ok (record { vcc = k.vcc; connection = k.connection; volts = Some v; bits = k.bits })))
+    (and_then (numeral_of word 10 255) (λ n. Ok (record { vcc = k.vcc; connection = k.connection; volts = k.volts; bits = set k.bits (key - 3) (Some n) })))))
 
-abbrev pub driven_of : Keys → List ℕ → Keys
-driven_of k word = keys_are (set k.values 2 0) k.vcc (volts_of word).value (volts_of word).why
-
--- "ext=float|low|high|analog" by its place; "unknown name" is 3
-abbrev pub connection_of : List ℕ → ℕ
-connection_of word = place_of (text "float low high analog") word
-
-unfoldable pub connected_of : Keys → List ℕ → Keys
-connected_of k word = cond (ltb 3 (connection_of word)) (stopped_of k 3) (keys_are (set k.values 1 (connection_of word)) k.vcc k.volts k.why)
-
--- a bit, which is any decimal byte: the pin turns away what is none
-abbrev pub bit_of : Keys → ℕ → List ℕ → Keys
-bit_of k key word = keys_are (set k.values key (numeral_of word 10 255).value) k.vcc k.volts (numeral_of word 10 255).why
-
--- a key with its value
-unfoldable pub taken_of : Keys → ℕ → List ℕ → Keys
-taken_of k key word = cond (eqb key 0) (supplied_of k word) (cond (eqb key 1) (connected_of k word) (cond (eqb key 2) (driven_of k word) (bit_of k key word)))
+-- was a key given
+unfoldable pub given_of : Keys → ℕ → Bool
+given_of k key =
+    cond (key == 0) (is_some k.vcc) (cond (key == 1) (is_some k.connection) (cond (key == 2) (is_some k.volts) (is_some (slice_index_or k.bits (key - 3) None))))
 
 -- the keys in their order
 abbrev pub pin_keys : Kept Keys
 pin_keys = record {
   names = text "vcc ext volts dir out pullup pulldown ove ovv reserved ddoe ddov level";
-  last = 12;
-  missing = missing;
-  why = λ k. k.why;
-  values = λ k. k.values;
-  stopped = stopped_of;
+  given = given_of;
   taken = taken_of;
 }
 
--- one word more
-abbrev pub with_of : Keys → List ℕ → Keys
-with_of = stepped pin_keys
-
 -- the keys of a line from a place on
-abbrev pub keys_of : List ℕ → ℕ → Keys
+abbrev pub keys_of : List ℕ → ℕ → Result Keys Unreadable
 keys_of line from = gathered pin_keys no_keys line from
 
--- ---- the pin and its drive
+-- ---- the pin and its drive: "missing keys are 0, `ext` float, `vcc` 5.0"
 
--- the value of a key by its place in their list
-abbrev pub at : Keys → ℕ → ℕ
-at k key = get_or k.values key 0
+-- a bit by its place among the ten
+abbrev pub bit_of : Keys → ℕ → ℕ
+bit_of k place = unwrap_or (slice_index_or k.bits place None) 0
+
+abbrev pub ground : Float
+ground = fin false 0 (pos 0)
+
+-- the supply
+unfoldable pub vcc_of : Keys → Float
+vcc_of k = unwrap_or k.vcc (nearest 5 1)
 
 -- what the outside drives
-unfoldable pub drive_of : Keys → Drive
-drive_of k = cond (eqb (at k 1) 1) drive.Low (cond (eqb (at k 1) 2) drive.High (cond (eqb (at k 1) 3) (drive.Analog k.volts) drive.Float))
+unfoldable pub driven_by : Option Connection → Float → Drive
+driven_by None volts = drive.Float
+driven_by (Some connection.Float) volts = drive.Float
+driven_by (Some connection.Low) volts = drive.Low
+driven_by (Some connection.High) volts = drive.High
+driven_by (Some connection.Analog) volts = drive.Analog volts
+
+abbrev pub drive_of : Keys → Drive
+drive_of k = driven_by k.connection (unwrap_or k.volts ground)
 
 -- the pin; a `reserved` that is no bit goes in as the level, to be refused as any other
 unfoldable pub pin_of : Keys → Pin
 pin_of k =
     record {
-      dir = at k 3 % 256;
-      out = at k 4 % 256;
-      pullup = at k 5 % 256;
-      pulldown = at k 6 % 256;
-      ovenable = at k 7 % 256;
-      ovvalue = at k 8 % 256;
-      reserved = eqb (at k 9 % 256) 1;
-      ddoe = at k 10 % 256;
-      ddov = at k 11 % 256;
-      level = cond (leb (at k 9 % 256) 1) (at k 12 % 256) (at k 9 % 256);
-      volts = fin false 0 (pos 0);
+      dir = bit_of k 0;
+      out = bit_of k 1;
+      pullup = bit_of k 2;
+      pulldown = bit_of k 3;
+      ovenable = bit_of k 4;
+      ovvalue = bit_of k 5;
+      reserved = bit_of k 6 == 1;
+      ddoe = bit_of k 7;
+      ddov = bit_of k 8;
+      level = cond (nat_le (bit_of k 6) 1) (bit_of k 9) (bit_of k 6);
+      volts = ground;
     }
 
 -- ---- the answer
 
 -- "ok level=1 volts=4008000000000000 changed=1 contention=0"
-unfoldable pub resolved_line : Pin → Bool → Bool → List ℕ
-resolved_line p changed opposed =
-    (text "ok level=" ++ number p.level) ++ (text " volts=" ++ pattern (to_bits binary64 p.volts)) ++ (text " changed=" ++ flag changed) ++ (text " contention=" ++ flag opposed)
+unfoldable pub resolved_line : Resolved → Bool → List ℕ
+resolved_line r opposed =
+    (text "ok level=" ++ number r.pin.level) ++ (text " volts=" ++ pattern (to_bits binary64 r.pin.volts)) ++ (text " changed=" ++ flag r.changed) ++ (text " contention=" ++ flag opposed)
+
+-- what the pin resolves to and whether it is opposed, in the words of 01
+unfoldable pub outcome_of : Keys → Result (Resolved × Bool) Refusal
+outcome_of k =
+    let p = pin_of k in
+    let d = drive_of k in
+    and_then (resolved p d (vcc_of k)) (λ r. and_then (contention p d) (λ c. Ok (r, c)))
 
 -- "or refused 9, refused 10"
-unfoldable pub refused_line : ℕ → List ℕ
-refused_line n = text "refused " ++ number n
-
--- what the pin resolves to, and whether it is opposed
-unfoldable pub answer_line : Answer (Pin × Bool) → Answer Bool → List ℕ
-answer_line (accepted r) (accepted c) = resolved_line r.0 r.1 c
-answer_line (accepted r) (refused n) = refused_line n
-answer_line (refused n) c = refused_line n
-
--- in the words of 01
-abbrev pub answer_of : Pin → Drive → Ieee.Float → List ℕ
-answer_of p d vcc = answer_line (resolved p d vcc) (contention p d)
+unfoldable pub answer_line : Result (Resolved × Bool) Refusal → List ℕ
+answer_line (Ok r) = resolved_line r.0 r.1
+answer_line (Err why) = text "refused " ++ number (number_of why)
 
 -- the nth line, from the place after its name
-unfoldable pub pin_of_line : ℕ → Keys → List ℕ
-pin_of_line nth k = cond (eqb k.why 0) (answer_of (pin_of k) (drive_of k) k.vcc) (unreadable_of nth k.why)
+unfoldable pub pin_of_line : ℕ → Result Keys Unreadable → List ℕ
+pin_of_line nth (Ok k) = answer_line (outcome_of k)
+pin_of_line nth (Err why) = unreadable_of nth why
 
 abbrev pub pin_line : ℕ → List ℕ → ℕ → List ℕ
 pin_line nth line at = pin_of_line nth (keys_of line at)

@@ -4,23 +4,74 @@
 
 ghost use Rattle.std.specs.Prelude.{◌≡◌, ◌<◌};
 ghost use Rattle.page.specs.Page.{Puts};
-ghost use Rattle.pin_lines.specs.PinLines.{no_keys, stopped_of, supplied_of, driven_of, connected_of, bit_of, with_of, keys_of, drive_of, pin_of, resolved_line, answer_of, pin_line};
+ghost use Rattle.pin_lines.specs.PinLines.{no_keys, pin_keys, connection_of, bit_of, drive_of, pin_of, vcc_of, outcome_of, resolved_line, answer_line, pin_line};
 
-use page::{Page, bit, number, sixteen, unreadable};
-use pins::{Contention, Drive, Pin, Resolved};
+use page::Page;
+use pairs::{Keyed, gathered};
+use pins::{Drive, Pin, Refusal, Resolved};
 use words::volts::{pattern, volts_of};
-use words::{EXTRA_WORD, FINE, UNKNOWN_KEY, UNKNOWN_NAME, find, low8, numeral, place, skip, split};
+use words::{Unreadable, numeral};
 
-// A key that was not given: its lowest eight bits are the 0 that it stands for.
-const MISSING: u64 = 0x100;
+// What the outside connects to the pin.
+#[derive(Clone, Copy)]
+enum Connection {
+    Float,
+    Low,
+    High,
+    Analog,
+}
 
-// The keys in the order of their list: vcc and volts beside what tells that they were given, ext by its place among the drives.
+// The keys' values, none where a key was not given; of the ten bits in the order of their list.
 #[derive(Clone, Copy)]
 struct Keys {
-    values: [u64; 13],
-    vcc: f64,
-    volts: f64,
-    why: u8,
+    vcc: Option<f64>,
+    connection: Option<Connection>,
+    volts: Option<f64>,
+    bits: [Option<u8>; 10],
+}
+
+// A connection by its name.
+#[tactic(auto, unfolding(crate::specs::PinLines::connection_of, figures::specs::Figures::codes))]
+fn connected(word: &[u8]) -> Result<Connection, Unreadable>
+    ensures { result ≡ connection_of word.now }
+{
+    match word {
+        b"float" => Ok(Connection::Float),
+        b"low" => Ok(Connection::Low),
+        b"high" => Ok(Connection::High),
+        b"analog" => Ok(Connection::Analog),
+        _ => Err(Unreadable::UnknownName),
+    }
+}
+
+impl Keyed for Keys {
+    ghost kept = { pin_keys };
+
+    #[tactic(auto, unfolding(figures::specs::Figures::codes))]
+    fn names() -> &'static [u8] {
+        b"vcc ext volts dir out pullup pulldown ove ovv reserved ddoe ddov level"
+    }
+
+    #[tactic(auto, using(crate::proofs::Names::keys_many), unfolding(crate::specs::PinLines::given_of))]
+    fn given(&self, key: usize) -> bool {
+        match key {
+            0 => self.vcc.is_some(),
+            1 => self.connection.is_some(),
+            2 => self.volts.is_some(),
+            _ => self.bits[key - 3].is_some(),
+        }
+    }
+
+    #[tactic(auto, using(crate::proofs::Names::keys_many), unfolding(crate::specs::PinLines::taken_of, words::specs::Words::and_then))]
+    fn taken(mut self, key: usize, word: &[u8]) -> Result<Keys, Unreadable> {
+        match key {
+            0 => self.vcc = Some(volts_of(word)?),
+            1 => self.connection = Some(connected(word)?),
+            2 => self.volts = Some(volts_of(word)?),
+            _ => self.bits[key - 3] = Some(numeral(word, 10, 0xff)? as u8),
+        }
+        Ok(self)
+    }
 }
 
 impl Keys {
@@ -29,175 +80,102 @@ impl Keys {
         ensures { result ≡ no_keys }
     {
         Keys {
-            values: [MISSING; 13],
-            vcc: 5.0,
-            volts: 0.0,
-            why: FINE,
+            vcc: None,
+            connection: None,
+            volts: None,
+            bits: [None; 10],
         }
     }
 
-    // Stops the reading.
-    fn stopped(mut self, why: u8) -> Keys
-        ensures { result ≡ stopped_of self why }
+    // A bit by its place among the ten, 0 where it was not given.
+    fn bit(&self, place: usize) -> u8
+        requires { place < 10 }
+        ensures { result ≡ bit_of self.now place }
     {
-        self.why = why;
-        self
-    }
-
-    // The keys with vcc.
-    fn supplied(mut self, word: &[u8]) -> Keys
-        ensures { result ≡ supplied_of self word.now }
-    {
-        let v = volts_of(word);
-        self.values[0] = 0;
-        self.vcc = v.value;
-        self.why = v.why;
-        self
-    }
-
-    // The keys with the volts outside.
-    fn driven(mut self, word: &[u8]) -> Keys
-        ensures { result ≡ driven_of self word.now }
-    {
-        let v = volts_of(word);
-        self.values[2] = 0;
-        self.volts = v.value;
-        self.why = v.why;
-        self
-    }
-
-    // The keys with what the outside connects.
-    fn connected(mut self, word: &[u8]) -> Keys
-        ensures { result ≡ connected_of self word.now }
-    {
-        let n = place(b"float low high analog", word);
-        if 3 < n {
-            return self.stopped(UNKNOWN_NAME);
-        }
-        self.values[1] = n as u64;
-        self
-    }
-
-    // The keys with a bit.
-    fn set(mut self, key: usize, word: &[u8]) -> Keys
-        requires { key < 13 }
-        ensures { result ≡ bit_of self key word.now }
-    {
-        let r = numeral(word, 10, 0xff);
-        self.values[key] = r.value;
-        self.why = r.why;
-        self
-    }
-
-    // The keys with one more KEY=VALUE.
-    fn with(self, word: &[u8]) -> Keys
-        ensures { result ≡ with_of self word.now }
-    {
-        if self.why != FINE {
-            return self;
-        }
-        let p = split(
-            b"vcc ext volts dir out pullup pulldown ove ovv reserved ddoe ddov level",
-            word,
-        );
-        let key = p.key;
-        let from = p.value;
-        if 12 < key {
-            return self.stopped(UNKNOWN_KEY);
-        }
-        if self.values[key] != MISSING {
-            return self.stopped(EXTRA_WORD);
-        }
-        match key {
-            0 => self.supplied(&word[from..]),
-            1 => self.connected(&word[from..]),
-            2 => self.driven(&word[from..]),
-            _ => self.set(key, &word[from..]),
-        }
-    }
-
-    // The keys of a line from a place on.
-    fn of(line: &[u8], from: usize) -> Keys
-        ensures { result ≡ keys_of line.now from }
-    {
-        let mut keys = Keys::new();
-        let mut at = skip(line, from);
-        while at < line.len() {
-            let end = find(line, at + 1, b' ');
-            keys = keys.with(&line[at..end]);
-            at = skip(line, end);
-        }
-        keys
-    }
-
-    // What the outside drives.
-    fn drive(self) -> Drive
-        ensures { result ≡ drive_of self }
-    {
-        let v = self.values;
-        let ext = v[1];
-        match ext {
-            1 => Drive::Low,
-            2 => Drive::High,
-            3 => Drive::Analog(self.volts),
-            _ => Drive::Float,
-        }
+        self.bits[place].unwrap_or(0)
     }
 
     // The pin. A reserved that is no bit goes in as the level, to be refused as any other.
-    fn pin(self) -> Pin
-        ensures { result ≡ pin_of self }
+    #[tactic(auto, unfolding(crate::specs::PinLines::pin_of))]
+    fn pin(&self) -> Pin
+        ensures { result ≡ pin_of self.now }
     {
-        let v = self.values;
-        let reserved = low8(v[9]);
+        let reserved = self.bit(6);
         Pin {
-            dir: low8(v[3]),
-            out: low8(v[4]),
-            pullup: low8(v[5]),
-            pulldown: low8(v[6]),
-            ovenable: low8(v[7]),
-            ovvalue: low8(v[8]),
+            dir: self.bit(0),
+            out: self.bit(1),
+            pullup: self.bit(2),
+            pulldown: self.bit(3),
+            ovenable: self.bit(4),
+            ovvalue: self.bit(5),
             reserved: reserved == 1,
-            ddoe: low8(v[10]),
-            ddov: low8(v[11]),
-            level: if reserved <= 1 { low8(v[12]) } else { reserved },
+            ddoe: self.bit(7),
+            ddov: self.bit(8),
+            level: if reserved <= 1 { self.bit(9) } else { reserved },
             volts: 0.0,
         }
+    }
+
+    // What the outside drives.
+    #[tactic(auto, unfolding(crate::specs::PinLines::driven_by))]
+    fn drive(&self) -> Drive
+        ensures { result ≡ drive_of self.now }
+    {
+        match self.connection {
+            None | Some(Connection::Float) => Drive::Float,
+            Some(Connection::Low) => Drive::Low,
+            Some(Connection::High) => Drive::High,
+            Some(Connection::Analog) => Drive::Analog(self.volts.unwrap_or(0.0)),
+        }
+    }
+
+    // The supply's volts.
+    fn supply(&self) -> f64
+        ensures { result ≡ vcc_of self.now }
+    {
+        self.vcc.unwrap_or(5.0)
+    }
+
+    // The pin at its level, and whether it is opposed.
+    #[tactic(auto, unfolding(crate::specs::PinLines::outcome_of, words::specs::Words::and_then))]
+    fn outcome(&self) -> Result<(Resolved, bool), Refusal>
+        ensures { result ≡ outcome_of self.now }
+    {
+        let pin = self.pin();
+        let drive = self.drive();
+        let to = pin.resolve(drive, self.supply())?;
+        Ok((to, pin.contention(drive)?))
     }
 }
 
 // Puts a resolved pin.
-fn resolved(page: &mut Page, from: usize, pin: Pin, changed: bool, contention: bool) -> usize
-    ensures { Puts page.old from page.new result (resolved_line pin changed contention) }
+fn resolved(page: &mut Page, to: Resolved, contention: bool)
+    ensures { Puts page.old page.new (resolved_line to contention) }
 {
-    let at = number(page, from, b"ok level=", pin.level as u64);
-    let at = sixteen(page, at, b" volts=", pattern(pin.volts));
-    let at = bit(page, at, b" changed=", changed);
-    bit(page, at, b" contention=", contention)
+    page.number(b"ok level=", to.pin.level as u64);
+    page.sixteen(b" volts=", pattern(to.pin.volts));
+    page.bit(b" changed=", to.changed);
+    page.bit(b" contention=", contention);
 }
 
-// Puts what a pin resolves to.
-fn answer(page: &mut Page, at: usize, pin: Pin, drive: Drive, vcc: f64) -> usize
-    ensures { Puts page.old at page.new result (answer_of pin drive vcc) }
+// Puts what a pin resolves to, or why it is refused.
+#[tactic(auto, unfolding(crate::specs::PinLines::answer_line, figures::specs::Figures::codes))]
+fn answer(page: &mut Page, outcome: Result<(Resolved, bool), Refusal>)
+    ensures { Puts page.old page.new (answer_line outcome) }
 {
-    let to = pin.resolve(drive, vcc);
-    let opposed = pin.contention(drive);
-    match to {
-        Resolved::To { pin, changed } => match opposed {
-            Contention::Is(contention) => resolved(page, at, pin, changed, contention),
-            Contention::Refused(n) => number(page, at, b"refused ", n as u64),
-        },
-        Resolved::Refused(n) => number(page, at, b"refused ", n as u64),
+    match outcome {
+        Ok((to, contention)) => resolved(page, to, contention),
+        Err(why) => page.number(b"refused ", why.number() as u64),
     }
 }
 
-// Answers a pin line, the nth of the script, from the place after its name; yields the place after the answer.
-pub fn pin_line(page: &mut Page, from: usize, nth: u64, line: &[u8], at: usize) -> usize
-    ensures { Puts page.old from page.new result (pin_line nth line.now at) }
+// Answers a pin line, the nth of the script, from the place after its name.
+#[tactic(auto, unfolding(crate::specs::PinLines::pin_of_line))]
+pub fn pin_line(page: &mut Page, nth: u64, line: &[u8], at: usize)
+    ensures { Puts page.old page.new (pin_line nth line.now at) }
 {
-    let keys = Keys::of(line, at);
-    if keys.why != FINE {
-        return unreadable(page, from, nth, keys.why);
+    match gathered(Keys::new(), line, at) {
+        Ok(keys) => answer(page, keys.outcome()),
+        Err(why) => page.unreadable(nth, why),
     }
-    answer(page, from, keys.pin(), keys.drive(), keys.vcc)
 }

@@ -1,52 +1,43 @@
 -- What the contracts of `src/` cite: how a pin's level and volts come of what drives it, over the values and the operators of `lib.Ieee`,
 -- and what each public call answers, in 01's terms. Each definition names the section of 01 that it is from. Assumes nothing.
-use Rattle.std.specs.Prelude.{ℕ, Bool, true, false, not, cond, ◌&&◌, pos, leb, eqb}
+use Rattle.std.specs.Prelude.{ℕ, Bool, true, false, not, cond, ◌&&◌, pos, leb, eqb, Result, Ok, Err}
 use Rattle.std.specs.Float.Ieee as Ieee
-use Rattle.std.specs.Float.{nan, inf, fin, binary64}
+use Rattle.std.specs.Float.{fin, binary64, float_is_finite}
 use Rattle.std.specs.Float.Ieee.{lt, le, mul, round}
 use Rattle.pins.specs.declared.Drive.{Drive}
 use Rattle.pins.specs.declared.Drive.TheVariants as drive
 use Rattle.pins.specs.declared.Pin.{Pin}
-use Rattle.pins.specs.declared.Bit.{Bit}
-use Rattle.pins.specs.declared.Bit.TheVariants as bit
-use Rattle.pins.specs.declared.Contention.{Contention}
-use Rattle.pins.specs.declared.Contention.TheVariants as contention-case
+use Rattle.pins.specs.declared.Refusal.{Refusal}
+use Rattle.pins.specs.declared.Refusal.TheVariants as refusal
 use Rattle.pins.specs.declared.Resolved.{Resolved}
-use Rattle.pins.specs.declared.Resolved.TheVariants as resolved-case
 
 -- ---- volts
-
--- "Calls turned away", 9: neither a NaN nor an infinity
-unfoldable pub finite : Ieee.Float → Bool
-finite nan = false
-finite (inf s) = false
-finite (fin s m e) = true
 
 -- "Outputs and pins": 0 volts, which is plus zero
 abbrev pub ground : Ieee.Float
 ground = fin false 0 (pos 0)
 
--- "Calls turned away", 9: a Vcc of use is finite and above 0
+-- "Calls turned away", 9: a Vcc of use is finite, neither a NaN nor an infinity, and above 0
 abbrev pub supplied : Ieee.Float → Bool
-supplied vcc = finite vcc && lt ground vcc
+supplied vcc = float_is_finite vcc && lt ground vcc
 
 -- "Calls turned away", 9: a drive of use has finite volts where it is analog
-unfoldable pub usable : Drive → Bool
+abbrev pub usable : Drive → Bool
 usable drive.Float = true
 usable drive.Low = true
 usable drive.High = true
-usable (drive.Analog v) = finite v
+usable (drive.Analog v) = float_is_finite v
 
 -- "Outputs and pins": a bit or a level that is 1
 abbrev pub is_set : ℕ → Bool
 is_set n = not (eqb n 0)
 
 -- "Outputs and pins": the volts of a level, Vcc or 0
-unfoldable pub rail : ℕ → Ieee.Float → Ieee.Float
+abbrev pub rail : ℕ → Ieee.Float → Ieee.Float
 rail level vcc = cond (is_set level) vcc ground
 
 -- "Outputs and pins": v clamped to 0..Vcc; minus zero is not below 0, so it passes unchanged
-unfoldable pub clamped : Ieee.Float → Ieee.Float → Ieee.Float
+abbrev pub clamped : Ieee.Float → Ieee.Float → Ieee.Float
 clamped v vcc = cond (lt v ground) ground (cond (lt vcc v) vcc v)
 
 -- "Outputs and pins": n tenths as the nearest f64, so that 0.6 is `tenths 6`
@@ -55,13 +46,13 @@ unfolding round
 tenths n = round binary64 false n 10
 
 -- "Outputs and pins": 1 from 0.6 × Vcc, 0 to 0.3 × Vcc, else held
-unfoldable pub analog_level : Ieee.Float → Ieee.Float → ℕ → ℕ
+abbrev pub analog_level : Ieee.Float → Ieee.Float → ℕ → ℕ
 analog_level v vcc held = cond (le (mul binary64 (tenths 6) vcc) v) 1 (cond (le v (mul binary64 (tenths 3) vcc)) 0 held)
 
 -- ---- a pin
 
 -- "Outputs and pins": a value of the pin's own, or a peripheral's where that is enabled
-unfoldable pub overridden : ℕ → ℕ → ℕ → ℕ
+abbrev pub overridden : ℕ → ℕ → ℕ → ℕ
 overridden enable value own = cond (is_set enable) value own
 
 -- "Outputs and pins": the bit that the MCU drives
@@ -104,75 +95,52 @@ abbrev pub at_rail : Pin → ℕ → Ieee.Float → Pin
 at_rail p n vcc = at p n (rail n vcc)
 
 -- "Outputs and pins": the level of a floating input: pull-up, then pull-down, else held
-unfoldable pub pulled : Pin → ℕ
+abbrev pub pulled : Pin → ℕ
 pulled p = cond (is_set p.pullup) 1 (cond (is_set p.pulldown) 0 p.level)
 
 -- "Outputs and pins": an input takes its drive
-unfoldable pub input : Pin → Drive → Ieee.Float → Pin
+abbrev pub input : Pin → Drive → Ieee.Float → Pin
 input p drive.Float vcc = at_rail p (pulled p) vcc
 input p drive.Low vcc = at_rail p 0 vcc
 input p drive.High vcc = at_rail p 1 vcc
 input p (drive.Analog x) vcc = at p (analog_level (clamped x vcc) vcc p.level) (clamped x vcc)
 
 -- "Outputs and pins": an output has its driven bit, an input its drive
-unfoldable pub settled : Pin → Drive → Ieee.Float → Pin
+abbrev pub settled : Pin → Drive → Ieee.Float → Pin
 settled p d vcc = cond (output p) (at_rail p (driven_bit p) vcc) (input p d vcc)
 
 -- "Outputs and pins": an output drives one level and the outside the other
-unfoldable pub opposed : Pin → Drive → Bool
+abbrev pub opposed : Pin → Drive → Bool
 opposed p drive.Float = false
 opposed p drive.Low = output p && eqb (driven_bit p) 1
 opposed p drive.High = output p && eqb (driven_bit p) 0
 opposed p (drive.Analog x) = false
 
--- ---- answers. What `bit_answer`, `contention_answer` and `resolved_answer` make of two answers is the same only where they are: a promise settles the whole answer.
+-- ---- answers
 
--- "Calls turned away": a refusal returns its number only, and an accepted call its values
-pub data Answer (A : Type 0) : Type 0 where
-  refused : ℕ → Answer A
-  accepted : A → Answer A
+-- "Calls turned away": the number of a refusal
+abbrev pub number_of : Refusal → ℕ
+number_of refusal.Volts = 9
+number_of refusal.Bits = 10
 
--- "Calls turned away": 9 unless the volts are of use, then 10 unless each bit is 0 or 1, else 0 for no refusal
-unfoldable pub refusal : Bool → Bool → ℕ
-refusal goodVolts goodBits = cond (not goodVolts) 9 (cond (not goodBits) 10 0)
-
--- "Calls turned away": the refusal of number n, or at 0 the values
-unfoldable pub answer : {A : Type 0} → ℕ → A → Answer A
-answer n v = cond (eqb n 0) (accepted v) (refused n)
-
--- "List of forms by place": the number and the values of each case of `Bit`
-abbrev pub bit_answer : Bit → Answer ℕ
-bit_answer (bit.Is n) = accepted n
-bit_answer (bit.Refused n) = refused n
-
--- "List of forms by place": the number and the values of each case of `Contention`
-abbrev pub contention_answer : Contention → Answer Bool
-contention_answer (contention-case.Is b) = accepted b
-contention_answer (contention-case.Refused n) = refused n
-
--- "List of forms by place": the number and the values of each case of `Resolved`
-abbrev pub resolved_answer : Resolved → Answer (Pin × Bool)
-resolved_answer (resolved-case.To p b) = accepted (p, b)
-resolved_answer (resolved-case.Refused n) = refused n
-
--- "Calls turned away": what a call that is given no voltage answers of a bit of the pin
-abbrev pub of_bit : Pin → ℕ → Answer ℕ
-of_bit p n = answer (refusal true (bits p)) n
+-- "Calls turned away": 9 unless the volts are of use, then 10 unless each bit is 0 or 1, else the values
+abbrev pub answer : {A : Type 0} → Bool → Pin → A → Result A Refusal
+answer goodVolts p v = cond (not goodVolts) (Err refusal.Volts) (cond (not (bits p)) (Err refusal.Bits) (Ok v))
 
 -- "Outputs and pins": what `driven` answers
-abbrev pub driven : Pin → Answer ℕ
-driven p = of_bit p (driven_bit p)
+abbrev pub driven : Pin → Result ℕ Refusal
+driven p = answer true p (driven_bit p)
 
 -- "Outputs and pins": what `effective_dir` answers
-abbrev pub effective_dir : Pin → Answer ℕ
-effective_dir p = of_bit p (direction p)
+abbrev pub effective_dir : Pin → Result ℕ Refusal
+effective_dir p = answer true p (direction p)
 
 -- "Outputs and pins": what `contention` answers, a yes or no
-abbrev pub contention : Pin → Drive → Answer Bool
-contention p d = answer (refusal (usable d) (bits p)) (opposed p d)
+abbrev pub contention : Pin → Drive → Result Bool Refusal
+contention p d = answer (usable d) p (opposed p d)
 
 -- "Outputs and pins": what `resolve` answers, the pin and whether its level changed
-abbrev pub resolved : Pin → Drive → Ieee.Float → Answer (Pin × Bool)
+abbrev pub resolved : Pin → Drive → Ieee.Float → Result Resolved Refusal
 resolved p d vcc =
     let q = settled p d vcc in
-    answer (refusal (supplied vcc && usable d) (bits p)) (q, not (eqb q.level p.level))
+    answer (supplied vcc && usable d) p (record { pin = q; changed = not (eqb q.level p.level) })

@@ -3,10 +3,10 @@
 
 #![tactic(auto)]
 
-ghost use Rattle.std.specs.Prelude.{◌≡◌};
-ghost use Rattle.pins.specs.Pins.{finite, supplied, usable, rail, clamped, analog_level};
+ghost use Rattle.std.specs.Prelude.{◌≡◌, IsTrue};
+ghost use Rattle.pins.specs.Pins.{supplied, usable, rail, clamped, analog_level};
 ghost use Rattle.pins.specs.Pins.{overridden, driven_bit, direction, output, bits, at, at_rail, pulled, input, settled, opposed};
-ghost use Rattle.pins.specs.Pins.{refusal, of_bit, bit_answer, contention_answer, resolved_answer, driven, effective_dir, contention, resolved};
+ghost use Rattle.pins.specs.Pins.{number_of, answer, driven, effective_dir, contention, resolved};
 
 // What the outside world connects to a pin.
 #[derive(Clone, Copy)]
@@ -40,46 +40,47 @@ pub struct Pin {
     pub volts: f64,
 }
 
-// Refused, here and below, holds the refusal's number: 9 for the volts, 10 for the bits.
-#[derive(Clone, Copy)]
-pub enum Bit {
-    Is(u8),
-    Refused(u8),
+// Why a call is refused.
+#[derive(Clone, Copy, PartialEq, Eq)]
+pub enum Refusal {
+    // A voltage that is of no use.
+    Volts,
+    // A byte of the pin that is no bit.
+    Bits,
 }
 
-#[derive(Clone, Copy)]
-pub enum Contention {
-    Is(bool),
-    Refused(u8),
+impl Refusal {
+    pub fn number(self) -> u8
+        ensures { result ≡ number_of self }
+    {
+        match self {
+            Refusal::Volts => 9,
+            Refusal::Bits => 10,
+        }
+    }
 }
 
+// A pin at its level, and whether the level changed.
 #[derive(Clone, Copy)]
-pub enum Resolved {
-    To { pin: Pin, changed: bool },
-    Refused(u8),
-}
-
-fn is_finite(x: f64) -> bool
-    ensures { result ≡ finite x }
-{
-    let top = 1.0 / 0.0;
-    (-top < x) & (x < top)
+pub struct Resolved {
+    pub pin: Pin,
+    pub changed: bool,
 }
 
 fn is_supplied(vcc: f64) -> bool
     ensures { result ≡ supplied vcc }
 {
-    is_finite(vcc) & (vcc > 0.0)
+    vcc.is_finite() & (vcc > 0.0)
 }
 
-fn is_usable(drive: Drive) -> bool
-    ensures { result ≡ usable drive }
-{
-    match drive {
-        Drive::Float => true,
-        Drive::Low => true,
-        Drive::High => true,
-        Drive::Analog(v) => is_finite(v),
+impl Drive {
+    fn is_usable(self) -> bool
+        ensures { result ≡ usable self }
+    {
+        match self {
+            Drive::Float | Drive::Low | Drive::High => true,
+            Drive::Analog(volts) => volts.is_finite(),
+        }
     }
 }
 
@@ -87,18 +88,6 @@ fn rail_of(level: u8, vcc: f64) -> f64
     ensures { result ≡ rail level vcc }
 {
     if level != 0 { vcc } else { 0.0 }
-}
-
-fn clamp(v: f64, vcc: f64) -> f64
-    ensures { result ≡ clamped v vcc }
-{
-    if v < 0.0 {
-        0.0
-    } else if v > vcc {
-        vcc
-    } else {
-        v
-    }
 }
 
 fn analog_level(v: f64, vcc: f64, held: u8) -> u8
@@ -152,20 +141,27 @@ impl Pin {
             & (self.level <= 1)
     }
 
-    // The number of the refusal, and 0 for none. `volts` says that every voltage given is of use.
-    fn refusal_number(self, volts: bool) -> u8
-        ensures { result ≡ refusal volts (bits self) }
+    // Refuses a call on this pin; `volts` says that every voltage given is of use.
+    fn check(self, volts: bool) -> Result<(), Refusal>
+        ensures { result ≡ answer volts self tt }
     {
-        let bits = self.has_bits();
-        if volts { if bits { 0 } else { 10 } } else { 9 }
+        if !volts {
+            return Err(Refusal::Volts);
+        }
+        if !self.has_bits() {
+            return Err(Refusal::Bits);
+        }
+        Ok(())
     }
 
-    fn put_at(mut self, level: u8, volts: f64) -> Pin
+    fn put_at(self, level: u8, volts: f64) -> Pin
         ensures { result ≡ at self level volts }
     {
-        self.level = level;
-        self.volts = volts;
-        self
+        Pin {
+            level,
+            volts,
+            ..self
+        }
     }
 
     fn put_at_rail(self, level: u8, vcc: f64) -> Pin
@@ -187,6 +183,7 @@ impl Pin {
     }
 
     fn take_input(self, drive: Drive, vcc: f64) -> Pin
+        requires { IsTrue (supplied vcc) }
         ensures { result ≡ input self drive vcc }
     {
         match drive {
@@ -194,13 +191,14 @@ impl Pin {
             Drive::Low => self.put_at_rail(0, vcc),
             Drive::High => self.put_at_rail(1, vcc),
             Drive::Analog(x) => {
-                let v = clamp(x, vcc);
+                let v = x.clamp(0.0, vcc);
                 self.put_at(analog_level(v, vcc, self.level), v)
             }
         }
     }
 
     fn settle(self, drive: Drive, vcc: f64) -> Pin
+        requires { IsTrue (supplied vcc) }
         ensures { result ≡ settled self drive vcc }
     {
         if self.is_output() {
@@ -223,55 +221,39 @@ impl Pin {
         }
     }
 
-    fn answer_bit(self, bit: u8) -> Bit
-        ensures { bit_answer result ≡ of_bit self bit }
-    {
-        let n = self.refusal_number(true);
-        if n != 0 {
-            Bit::Refused(n)
-        } else {
-            Bit::Is(bit)
-        }
-    }
-
     // Value driven by the MCU when the pin is an output.
-    pub fn driven(self) -> Bit
-        ensures { bit_answer result ≡ driven self }
+    pub fn driven(self) -> Result<u8, Refusal>
+        ensures { result ≡ driven self }
     {
-        self.answer_bit(self.driven_bit())
+        self.check(true)?;
+        Ok(self.driven_bit())
     }
 
     // Direction after peripheral overrides (1 = output).
-    pub fn effective_dir(self) -> Bit
-        ensures { bit_answer result ≡ effective_dir self }
+    pub fn effective_dir(self) -> Result<u8, Refusal>
+        ensures { result ≡ effective_dir self }
     {
-        self.answer_bit(self.direction_bit())
+        self.check(true)?;
+        Ok(self.direction_bit())
     }
 
     // Resolves logic level and voltage, and says whether the level changed.
-    pub fn resolve(self, drive: Drive, vcc: f64) -> Resolved
-        ensures { resolved_answer result ≡ resolved self drive vcc }
+    pub fn resolve(self, drive: Drive, vcc: f64) -> Result<Resolved, Refusal>
+        ensures { result ≡ resolved self drive vcc }
     {
-        let n = self.refusal_number(is_supplied(vcc) & is_usable(drive));
-        if n != 0 {
-            return Resolved::Refused(n);
-        }
+        self.check(is_supplied(vcc) & drive.is_usable())?;
         let pin = self.settle(drive, vcc);
-        Resolved::To {
+        Ok(Resolved {
             pin,
             changed: pin.level != self.level,
-        }
+        })
     }
 
     // The MCU drives the pin while something external drives the opposite level.
-    pub fn contention(self, drive: Drive) -> Contention
-        ensures { contention_answer result ≡ contention self drive }
+    pub fn contention(self, drive: Drive) -> Result<bool, Refusal>
+        ensures { result ≡ contention self drive }
     {
-        let n = self.refusal_number(is_usable(drive));
-        if n != 0 {
-            Contention::Refused(n)
-        } else {
-            Contention::Is(self.is_opposed(drive))
-        }
+        self.check(drive.is_usable())?;
+        Ok(self.is_opposed(drive))
     }
 }

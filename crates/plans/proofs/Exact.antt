@@ -8,16 +8,18 @@ use lib.Dec.{eqb, ltb}
 use lib.ListN.{length, get_or, set, length-set, length-append, get_or-append}
 use lib.Seq.{get_or-set_same, get_or-set_other, get_or-append_seam}
 use borrow.Author.Tests.{eqb-true, eqb-false, eq-eqb, ne_eqb, ltb-true, ltb-false}
+use Rattle.std.specs.Prelude.{Result, Ok, Err}
+use Rattle.std.proofs.lemmas.List.Sums.{passes_at_first}
 use Rattle.time.specs.declared.units.Cycle.{Cycle}
 use Rattle.counter.specs.declared.next.Next.{Next}
 use Rattle.counter.specs.declared.next.Next.TheVariants as next
 use Rattle.events.specs.declared.EventKey.{EventKey}
 use Rattle.events.specs.declared.Event.{Event}
 use Rattle.events.specs.Events.{blank, same, place_of, swap_removed}
-use Rattle.events.proofs.Lists.{position-passes, position-within, from, length-swap, get_or-swap, from-within}
-use Rattle.events.proofs.Places.{kept}
+use Rattle.events.proofs.Lists.{position-within, from, length-swap, get_or-swap, from-within}
 use Rattle.scheduler.specs.declared.Scheduler.{Scheduler}
-use Rattle.scheduler.specs.Scheduler.{holding, held, holds, put, scheduled, removed}
+use Rattle.scheduler.specs.declared.Full.{Full}
+use Rattle.scheduler.specs.Scheduler.{holds, put, scheduled, removed}
 use Rattle.scheduler.specs.Runs.{at, cancel, after, Sound}
 use Rattle.scheduler.proofs.Runs.{same_refl, same_key, after-sound}
 use Rattle.m328p.specs.declared.Id.{Id}
@@ -64,7 +66,7 @@ module _ (l : List Event) (n m : Id → Next) (i : Id) (once : (p q : ℕ) → p
   -- the key is held at a place
   module _ (h : place_of (key_of i) l < length l) where
     here : (get_or l (place_of (key_of i) l) blank).key ≡ key_of i
-    here = same_key _ _ (position-passes (λ e. same e.key (key_of i)) l h)
+    here = same_key _ _ (passes_at_first (λ e. same e.key (key_of i)) l blank h)
 
     -- an event at another place is another timer's
     not-here : (q : ℕ) (j : Id) → q < length l → (q ≡ place_of (key_of i) l → ⊥) → (get_or l q blank).key ≡ key_of j → Apart j i
@@ -276,36 +278,26 @@ module _ (l : List Event) (n m : Id → Next) (i : Id) (once : (p q : ℕ) → p
 
 -- ---- the scheduler
 
--- three events at most
-few : (n : Id → Next) (l : List Event) → Exact n l → length l ≤ 3
-few n l x = omega (arith, x.size, most (n id.Zero), most (n id.One), most (n id.Two))
-
--- a list of few is held as it is
-holds-it : (l : List Event) → length l ≤ 3 → held (holding l) ≡ l
-holds-it l h = (kept {l = l} refl (omega arith)).0
-
 sound-of : (s : Scheduler) (i : Id) (k : Next) → Sound s → Sound (planned_of s i k)
 unfolding planned_of after
 sound-of s i (next.At c f) h = after-sound s (at (key_of i) c.0) h
 sound-of s i next.Never h = after-sound s (cancel (key_of i)) h
 
--- few are held, so no key is refused
-taken : (s : Scheduler) (i : Id) (cycle : ℕ) → length (held s) ≤ 3 → (scheduled (key_of i) cycle s).1 ≡ holding (put (key_of i) cycle (held s))
+-- three events at most are held, so no key is refused
+taken : (s : Scheduler) (i : Id) (cycle : ℕ) → length s ≤ 3 → scheduled (key_of i) cycle s ≡ Ok (put (key_of i) cycle s)
 unfolding scheduled
-taken s i cycle h = go (holds (key_of i) (held s))
+taken s i cycle h = go (holds (key_of i) s)
   where
-    go : (b : Bool) → (cond {A = ℕ × Scheduler} (not b && eqb (length (held s)) 64) (11, s) (0, holding (put (key_of i) cycle (held s)))).1 ≡ holding (put (key_of i) cycle (held s))
+    go : (b : Bool) → cond {A = Result Scheduler Full} (not b && eqb (length s) 64) (Err (record {})) (Ok (put (key_of i) cycle s)) ≡ Ok (put (key_of i) cycle s)
     go true = refl
-    go false = rw (ne_eqb (length (held s)) 64 (λ e. omega arith))
+    go false = rw (ne_eqb (length s) 64 (λ e. omega arith))
 
-exact-of : (s : Scheduler) (n m : Id → Next) (i : Id) (k : Next) → Sound s → Exact n (held s) → ((j : Id) → Apart j i → m j ≡ n j) → m i ≡ k → Exact m (held (planned_of s i k))
+exact-of : (s : Scheduler) (n m : Id → Next) (i : Id) (k : Next) → Sound s → Exact n s → ((j : Id) → Apart j i → m j ≡ n j) → m i ≡ k → Exact m (planned_of s i k)
 unfolding planned_of
 exact-of s n m i (next.At c f) h x others e =
-    let y = put-exact (held s) n m i h.once x others c f e in
-    rw (taken s i c.0 (few n (held s) x), holds-it (put (key_of i) c.0 (held s)) (few m _ y)) y
-exact-of s n m i next.Never h x others e =
-    let y = removed-exact (held s) n m i h.once x others e in
-    rw (holds-it (removed (key_of i) (held s)) (few m _ y)) y
+    let few : length s ≤ 3 = omega (arith, x.size, most (n id.Zero), most (n id.One), most (n id.Two)) in
+    rw (taken s i c.0 few) (put-exact s n m i h.once x others c f e)
+exact-of s n m i next.Never h x others e = removed-exact s n m i h.once x others e
 
 pub planned : Planned
 planned s n m i sound x others = (sound-of s i (m i) sound, exact-of s n m i (m i) sound x others refl)

@@ -1,5 +1,6 @@
 -- The board's scheduler (02, 2.6): the owner of an event is a timer's id.
 use Rattle.std.specs.Prelude.{ℕ, ◌+◌, ◌<◌, false, List, ◌≡◌, eqb, length, get_or}
+use Rattle.std.specs.Result.{result_unwrap_or}
 use Rattle.time.specs.declared.units.Cycle.{Cycle}
 use Rattle.counter.specs.declared.next.Next.{Next}
 use Rattle.counter.specs.declared.next.Next.TheVariants as next
@@ -7,7 +8,7 @@ use Rattle.events.specs.declared.EventKey.{EventKey}
 use Rattle.events.specs.declared.Event.{Event}
 use Rattle.events.specs.Events.{blank}
 use Rattle.scheduler.specs.declared.Scheduler.{Scheduler}
-use Rattle.scheduler.specs.Scheduler.{holding, held, scheduled, removed}
+use Rattle.scheduler.specs.Scheduler.{scheduled, removed}
 use Rattle.scheduler.specs.Runs.{Sound}
 use Rattle.m328p.specs.declared.Id.{Id}
 use Rattle.m328p.specs.declared.Id.TheVariants as id
@@ -20,8 +21,8 @@ key_of id.Two = record { owner = 2; tag = 0 }
 
 -- the scheduler with a timer's next event, or without one
 unfoldable pub planned_of : Scheduler → Id → Next → Scheduler
-planned_of s i (next.At cycle flags) = (scheduled (key_of i) cycle.0 s).1
-planned_of s i next.Never = holding (removed (key_of i) (held s))
+planned_of s i (next.At cycle flags) = result_unwrap_or (scheduled (key_of i) cycle.0 s) s
+planned_of s i next.Never = removed (key_of i) s
 
 -- ---- exactly the next events that the timers have
 
@@ -60,5 +61,5 @@ Apart j i = eqb (key_of j).owner (key_of i).owner ≡ false
 
 -- Planned: where one timer's next event changes and is planned, the scheduler holds exactly the next events again; and it stays sound, with no key held twice
 abbrev pub Planned : Type 0
-Planned = (s : Scheduler) (n m : Id → Next) (i : Id) → Sound s → Exact n (held s) → ((j : Id) → Apart j i → m j ≡ n j)
-    → (Sound (planned_of s i (m i))) × Exact m (held (planned_of s i (m i)))
+Planned = (s : Scheduler) (n m : Id → Next) (i : Id) → Sound s → Exact n s → ((j : Id) → Apart j i → m j ≡ n j)
+    → (Sound (planned_of s i (m i))) × Exact m (planned_of s i (m i))

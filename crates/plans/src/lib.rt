@@ -3,7 +3,6 @@
 #![tactic(auto)]
 
 ghost use Rattle.std.specs.Prelude.{◌≡◌};
-ghost use Rattle.scheduler.specs.Scheduler.{Valid};
 ghost use Rattle.plans.specs.Plans.{key_of, planned_of};
 
 use counter::next::Next;
@@ -14,20 +13,19 @@ use scheduler::{EventKey, Scheduler};
 pub fn key(id: Id) -> EventKey
     ensures { result ≡ key_of id }
 {
-    match id {
-        Id::Zero => EventKey { owner: 0, tag: 0 },
-        Id::One => EventKey { owner: 1, tag: 0 },
-        Id::Two => EventKey { owner: 2, tag: 0 },
+    EventKey {
+        owner: id as u8,
+        tag: 0,
     }
 }
 
 // Yields the scheduler with a timer's next event, or without one.
+#[tactic(auto, unfolding(crate::specs::Plans::planned_of))]
 pub fn planned(s: Scheduler, id: Id, next: Next) -> Scheduler
-    requires { Valid s }
-    ensures { (result ≡ planned_of s id next) × Valid result }
+    ensures { result ≡ planned_of s id next }
 {
     match next {
-        Next::At(cycle, flags) => s.at(key(id), cycle.0).scheduler,
+        Next::At(cycle, _) => s.at(key(id), cycle.0).unwrap_or(s),
         Next::Never => s.cancel(key(id)),
     }
 }

@@ -1,18 +1,14 @@
 -- The claims of specs/Claims.antt: the log and the plain account stay tied, by induction over the calls.
 use Prim.Native.Nat.{ℕ, ◌+◌, ◌-◌, ◌*◌, ◌%◌, ◌≤◌, ◌<◌}
 use native.Mathlib.Omega.{arith}
-use native.Mathlib.Nat.{not-suc-le-zero}
 use native.Mathlib.Decide.{dec_lt}
 use mathlib.Core.Path.{◌≡◌, refl, sym, ap, ap₂, ◌∙◌}
-use mathlib.Core.Bool.{Bool, true, false}
 use mathlib.Core.List.{List, [], ◌∷◌, ◌++◌}
-use lib.Dec.{eqb, leb}
-use lib.ListN.{length, get_or, drop, length-append, length-drop, get_or-append}
+use lib.ListN.{length, get_or, drop, length-append, get_or-append}
 use lib.Seq.{sets, length-sets, get_or-append_seam, get_or-drop, drop-drop, drop-append-le}
-use borrow.Author.Tests.{eqb-true, eqb-false, leb-true}
-use Rattle.record_ring.specs.declared.Ring.{Ring}
+use Rattle.std.proofs.lemmas.Grind.{common_steps}
 use Rattle.records.specs.Records.{record_at}
-use Rattle.record_ring.specs.Log.{added, released, place_of, Valid}
+use Rattle.record_ring.specs.Log.{answer_number, added, released, place_of, Valid}
 use Rattle.record_ring.specs.Claims.{Call, add, release, Soak, fresh, answered, after, run, numbers, Account, nothing, number_of, booked, noted, account, numbers_of, soaked, accounted, Answers, Keeps, Placed, Accounts, History, none, called, CodeIsRun, Reading}
 use Rattle.record_ring.proofs.Places.{at_place, elsewhere}
 
@@ -27,7 +23,7 @@ record Tied (size : ℕ) (t : Soak) (k : Account) : Type 0 where
 
 -- as many are held as the queue has
 queued : {size : ℕ} {t : Soak} {k : Account} → Tied size t k → length k.queue ≡ t.ring.held
-queued {size} {t} {k} w = let s = w.sum in ap length w.queue ∙ length-drop k.released k.added ∙ omega arith
+queued w = grind (arith, common_steps)
 
 -- ---- an accepted call
 
@@ -57,17 +53,18 @@ module _ {size : ℕ} {t : Soak} {k : Account} (w : Tied size t k) where
           let v = w.valid in
           let m = w.next in
           let s = w.sum in
-          elsewhere t.area bytes ten t.ring.next (i % 6000) (λ e. omega (arith, free))
+          let z = w.sized in
+          elsewhere t.area bytes ten t.ring.next (omega arith) (i % 6000) (λ e. omega (arith, free))
           ∙ w.stands i l u
           ∙ sym (get_or-append k.added (bytes ∷ []) [] i u)
       place i l (no u) h =
           let v = w.valid in
           let z = w.sized in
+          let m = w.next in
           let e : i ≡ length k.added = omega (arith, u) in
-          let p : i % 6000 ≡ t.ring.next = ap (λ (n : ℕ). n % 6000) e ∙ sym w.next in
-          ap (record_at (sets t.area (10 * t.ring.next) bytes)) p
-          ∙ at_place t.area bytes ten t.ring.next (omega arith)
-          ∙ sym (ap (λ (n : ℕ). get_or (k.added ++ bytes ∷ []) n []) e ∙ get_or-append_seam k.added bytes [] [])
+          let r = at_place t.area bytes ten t.ring.next (omega arith) in
+          let g = get_or-append_seam k.added bytes [] [] in
+          cc
 
   -- releasing no more than are held
   tied-release : (count : ℕ) → count ≤ t.ring.held
@@ -89,22 +86,20 @@ module _ {size : ℕ} {t : Soak} {k : Account} (w : Tied size t k) where
 
 -- it is answered as the queue has it, and the tie is kept
 abbrev Steps : ℕ → Soak → Account → Call → Type 0
-Steps size t k call = ((answered t call).0 ≡ number_of size k call) × Tied size (after t call) (noted size k call)
+Steps size t k call = (answer_number (answered t call).0 ≡ number_of size k call) × Tied size (after t call) (noted size k call)
 
 step : {size : ℕ} {t : Soak} {k : Account} → Tied size t k → (call : Call) → Steps size t k call
 unfolding answered added released number_of
-step {size} {t} {k} w (add bytes ten) = go (eqb size 60000) refl (eqb t.ring.held 6000) refl
-  where
-    go : (f : Bool) → eqb size 60000 ≡ f → (u : Bool) → eqb t.ring.held 6000 ≡ u → Steps size t k (add bytes ten)
-    go true p true q = simp (w.sized, queued w, p, q) (refl, w)
-    go true p false q = simp (w.sized, queued w, p, q) (refl, tied-add w bytes ten (eqb-true size 60000 p) (eqb-false t.ring.held 6000 q))
-    go false p u q = simp (w.sized, p) (refl, w)
-step {size} {t} {k} w (release count) = go (eqb size 60000) refl (leb count t.ring.held) refl
-  where
-    go : (f : Bool) → eqb size 60000 ≡ f → (u : Bool) → leb count t.ring.held ≡ u → Steps size t k (release count)
-    go true p true q = simp (w.sized, queued w, p, q) (refl, tied-release w count (leb-true count t.ring.held q))
-    go true p false q = simp (w.sized, queued w, p, q) (refl, w)
-    go false p u q = simp (w.sized, p) (refl, w)
+step {size} {t} {k} w (add bytes ten) =
+    let q = queued w in
+    let z = w.sized in
+    let a = tied-add w bytes ten in
+    (grind (arith, common_steps), grind (arith, common_steps))
+step {size} {t} {k} w (release count) =
+    let q = queued w in
+    let z = w.sized in
+    let a = tied-release w count in
+    (grind (arith, common_steps), grind (arith, common_steps))
 
 -- ---- any list
 
@@ -121,23 +116,11 @@ alike {size} {t} {k} w (call ∷ calls) = let s = step w call in ap₂ (λ (n : 
 histories : {t u : Soak} {calls : List Call} {ns : List ℕ} → History t calls ns u → (ns ≡ numbers t calls) × (u ≡ run t calls)
 unfolding run numbers
 histories (none t) = (refl, refl)
-histories (called t call r area calls ns u e h) =
-    let i = histories h in
-    let s : record { ring = r.ring; area = area } ≡ after t call = ap (λ (x : ℕ × Ring × List ℕ). record { ring = x.1; area = x.2 }) e in (
-      ap₂ (λ (n : ℕ) (m : List ℕ). n ∷ m) (ap (λ (x : ℕ × Ring × List ℕ). x.0) e) (i.0 ∙ ap (λ (x : Soak). numbers x calls) s),
-      i.1 ∙ ap (λ (x : Soak). run x calls) s,
-    )
+histories (called t call r area calls ns u e h) = let i = histories h in (grind (arith, common_steps), grind (arith, common_steps))
 
 begins : (area : List ℕ) → Tied (length area) (fresh area) nothing
 begins area =
-    record {
-      valid = record { place = omega arith; room = omega arith };
-      sized = refl;
-      next = refl;
-      sum = refl;
-      queue = refl;
-      stands = λ i l u. absurd (not-suc-le-zero u);
-    }
+    record { valid = grind (arith, common_steps); sized = refl; next = refl; sum = refl; queue = refl; stands = λ i l u. absurd (omega arith) }
 
 -- from the empty log on
 always : (area : List ℕ) (calls : List Call) → Tied (length area) (soaked area calls) (accounted area calls)

@@ -1,46 +1,38 @@
 -- Laws of the places: what is stored at one is read there, and leaves the others as they were.
-use Prim.Native.Nat.{ℕ, suc, ◌+◌, ◌-◌, ◌*◌, ◌≤◌, ◌<◌}
-use native.Mathlib.Omega.{arith}
+use Rattle.std.proofs.Common.{ℕ, ◌+◌, ◌-◌, ◌*◌, ◌≤◌, ◌<◌, ◌≡◌, sym, ap, ◌∙◌, List, ◌++◌, length, take, drop, append_assoc, arith, refl}
+use Rattle.std.proofs.lemmas.List.Edits.{sets, sets-eq}
+use Rattle.std.proofs.lemmas.Slice.{between_is, take-put_mid_below, drop-put_mid, between-put_mid}
 use native.Mathlib.Decide.{dec_lt}
-use mathlib.Core.Path.{◌≡◌, refl, sym, ap, ◌∙◌}
-use mathlib.Core.List.{List, [], ◌∷◌, ◌++◌, append_assoc}
-use lib.ListN.{length, set, take, drop}
-use lib.Seq.{sets, sets-eq, length-take-le, take_at, drop_at, take-set-le, drop-set-lt, drop-set-add}
+use borrow.Rule.Slice.PartMut.{put_mid}
+use lib.Seq.{drop-drop}
 use Rattle.records.specs.Records.{record_at}
 
--- n elements from m on, after stores before them
-before : (vs l : List ℕ) (i m n : ℕ) → i + length vs ≤ m → take n (drop m (sets l i vs)) ≡ take n (drop m l)
-before [] l i m n h = refl
-before (v ∷ vs) l i m n h = before vs (set l i v) (suc i) m n (omega arith) ∙ ap (take n) (drop-set-lt m l i v (omega arith))
+-- a part of the area, written as one, holds what stores of one byte after the other leave
+pub put_mid_sets : (l ys vs : List ℕ) (i k : ℕ) → ys ≡ vs → k ≡ length vs → i + length vs ≤ length l → put_mid i k l ys ≡ sets l i vs
+put_mid_sets l ys vs i k e f h =
+    rw (e, f) (ap (λ (t : List ℕ). take i l ++ (vs ++ t)) (drop-drop (length vs) i l) ∙ sym (sets-eq vs l i h ∙ append_assoc (take i l) vs (drop (i + length vs) l)))
 
--- and after stores behind them
-behind : (vs l : List ℕ) (i m n : ℕ) → m + n ≤ i → take n (drop m (sets l i vs)) ≡ take n (drop m l)
-behind [] l i m n h = refl
-behind (v ∷ vs) l i m n h =
-    let e : i ≡ m + (i - m) = omega arith in
-    behind vs (set l i v) (suc i) m n (omega arith)
-    ∙ ap (λ (j : ℕ). take n (drop m (set l j v))) e
-    ∙ ap (take n) (drop-set-add m l (i - m) v)
-    ∙ take-set-le n (drop m l) (i - m) v (omega arith)
+-- a part by its place and length
+part : (l : List ℕ) (m n : ℕ) → take n (drop m l) ≡ drop m (take (m + n) l)
+part l m n = let e : m + n - m ≡ n = omega arith in rw e at (between_is l m (m + n))
 
--- what is stored is read
-stored : (vs l : List ℕ) (i : ℕ) → i + length vs ≤ length l → take (length vs) (drop i (sets l i vs)) ≡ vs
-stored vs l i h =
-    ap (λ (s : List ℕ). take (length vs) (drop i s)) (sets-eq vs l i h ∙ append_assoc (take i l) vs (drop (i + length vs) l))
-    ∙ ap (take (length vs)) (drop_at (take i l) (vs ++ drop (i + length vs) l) i (length-take-le i l (omega arith)))
-    ∙ take_at vs (drop (i + length vs) l) (length vs) refl
-
-module _ (area bytes : List ℕ) (ten : length bytes ≡ 10) where
+module _ (area bytes : List ℕ) (ten : length bytes ≡ 10) (p : ℕ) (room : 10 * p + 10 ≤ length area) where
   -- a record added at a place is read there
-  pub at_place : (p : ℕ) → 10 * p + 10 ≤ length area → record_at (sets area (10 * p) bytes) p ≡ bytes
+  pub at_place : record_at (sets area (10 * p) bytes) p ≡ bytes
   unfolding record_at
-  at_place p h = ap (λ (n : ℕ). take n (drop (10 * p) (sets area (10 * p) bytes))) (sym ten) ∙ stored bytes area (10 * p) (omega arith)
+  at_place =
+      let e : 10 * p + 10 - 10 * p ≡ 10 = omega arith in
+      rw (← put_mid_sets area bytes bytes (10 * p) 10 refl (sym ten) (omega arith))
+      (rw e at (between-put_mid (10 * p) 10 area bytes (10 * p + 10) (omega arith) (omega arith)))
 
   -- and those at the other places are as they were
-  pub elsewhere : (p q : ℕ) → (q ≡ p → ⊥) → record_at (sets area (10 * p) bytes) q ≡ record_at area q
+  pub elsewhere : (q : ℕ) → (q ≡ p → ⊥) → record_at (sets area (10 * p) bytes) q ≡ record_at area q
   unfolding record_at
-  elsewhere p q other = go (dec_lt p q)
+  elsewhere q other = rw (← put_mid_sets area bytes bytes (10 * p) 10 refl (sym ten) (omega arith)) (go (dec_lt p q))
     where
-      go : Dec (p < q) → take 10 (drop (10 * q) (sets area (10 * p) bytes)) ≡ take 10 (drop (10 * q) area)
-      go (yes h) = before bytes area (10 * p) (10 * q) 10 (omega arith)
-      go (no h) = behind bytes area (10 * p) (10 * q) 10 (omega (arith, h, other))
+      go : Dec (p < q) → take 10 (drop (10 * q) (put_mid (10 * p) 10 area bytes)) ≡ take 10 (drop (10 * q) area)
+      go (yes h) = ap (take 10) (drop-put_mid (10 * p) 10 area bytes (10 * q) (omega arith) (omega arith) ten)
+      go (no h) =
+          part (put_mid (10 * p) 10 area bytes) (10 * q) 10
+          ∙ ap (drop (10 * q)) (take-put_mid_below (10 * p) 10 area bytes (10 * q + 10) (omega (arith, h, other)) (omega arith))
+          ∙ sym (part area (10 * q) 10)

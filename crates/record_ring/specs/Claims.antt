@@ -1,9 +1,10 @@
 -- What is proved of a log beside the functions (02, 2.12): over any list of calls from the empty log, on one area that nobody else writes.
-use Rattle.std.specs.Prelude.{ℕ, ◌+◌, ◌%◌, ◌≤◌, ◌<◌, ◌≡◌, cond, List, [], ◌∷◌, ◌++◌, eqb, leb, length, get_or, drop}
+use Rattle.std.specs.Prelude.{ℕ, ◌+◌, ◌%◌, ◌≤◌, ◌<◌, ◌≡◌, cond, List, [], ◌∷◌, ◌++◌, Result, eqb, leb, length, get_or, drop}
+use Rattle.std.specs.Result.{result_unwrap_or}
 use Rattle.record_ring.specs.declared.Ring.{Ring}
-use Rattle.record_ring.specs.declared.Answer.{Answer}
+use Rattle.record_ring.specs.declared.Refusal.{Refusal}
 use Rattle.records.specs.Records.{record_at}
-use Rattle.record_ring.specs.Log.{empty, added, released, place_of, Valid}
+use Rattle.record_ring.specs.Log.{empty, answer_number, added, released, place_of, Valid}
 
 -- a call of each method; adding takes one ten-byte record
 pub data Call : Type 0 where
@@ -21,14 +22,14 @@ pub record Soak : Type 0 where
 abbrev pub fresh : List ℕ → Soak
 fresh area = record { ring = empty; area = area }
 
--- what a call answers, and the log and the area after it
-unfoldable pub answered : Soak → Call → ℕ × Ring × List ℕ
+-- what a call answers, and the area after it
+unfoldable pub answered : Soak → Call → Result Ring Refusal × List ℕ
 answered t (add bytes ten) = added t.ring t.area bytes
 answered t (release count) = released t.ring t.area count
 
--- the log and its area after one call
+-- the log and its area after one call; a refused one leaves the log as it was
 abbrev pub after : Soak → Call → Soak
-after t call = record { ring = (answered t call).1; area = (answered t call).2 }
+after t call = record { ring = result_unwrap_or (answered t call).0 t.ring; area = (answered t call).1 }
 
 -- the log and its area after a list of calls
 unfoldable pub run : Soak → List Call → Soak
@@ -38,7 +39,7 @@ run t (call ∷ calls) = run (after t call) calls
 -- the numbers that the calls are answered
 unfoldable pub numbers : Soak → List Call → List ℕ
 numbers t [] = []
-numbers t (call ∷ calls) = (answered t call).0 ∷ numbers (after t call) calls
+numbers t (call ∷ calls) = answer_number (answered t call).0 ∷ numbers (after t call) calls
 
 -- ---- what it is held to: a plain queue and two counts, fed the area's size and the calls, nothing else
 
@@ -120,8 +121,9 @@ Accounts =
 -- a history of the public functions: each on the log and the area as the one before left them, each with its promise
 pub data History : Soak → List Call → List ℕ → Soak → Type 0 where
   none : (t : Soak) → History t [] [] t
-  called : (t : Soak) (call : Call) (r : Answer) (area : List ℕ) (calls : List Call) (ns : List ℕ) (u : Soak)
-      → (r.number, r.ring, area) ≡ answered t call → History (record { ring = r.ring; area = area }) calls ns u → History t (call ∷ calls) (r.number ∷ ns) u
+  called : (t : Soak) (call : Call) (r : Result Ring Refusal) (area : List ℕ) (calls : List Call) (ns : List ℕ) (u : Soak)
+      → (r, area) ≡ answered t call → History (record { ring = result_unwrap_or r t.ring; area = area }) calls ns u
+      → History t (call ∷ calls) (answer_number r ∷ ns) u
 
 -- the code is that run
 abbrev pub CodeIsRun : Type 0

@@ -1,49 +1,30 @@
 // A record goes into the area.
 
-ghost use Rattle.std.specs.Prelude.{◌+◌, ◌≤◌, ◌≡◌, length};
-ghost use Rattle.std.proofs.lemmas.List.Edits.{sets};
+ghost use Rattle.std.specs.Prelude.{◌≡◌, IfOk, OnErr};
 ghost use Rattle.record_ring.specs.Log.{added, Valid};
 
-use crate::{Answer, BYTES, PLACES, Ring};
+use crate::{BYTES, PLACES, Refusal, Ring};
 
 impl Ring {
-    // Adds a record at the next place. A refused call changes nothing.
-    #[tactic(auto, unfolding(crate::specs::Log::added))]
-    pub fn add(self, area: &mut [u8], bytes: [u8; 10]) -> Answer
+    // Adds a record at the next place. A refused call changes nothing: the area stays as it was, and the caller keeps the log that it has.
+    #[tactic(auto, using(crate::proofs::Places::put_mid_sets), unfolding(crate::specs::Log::added))]
+    pub fn add(self, area: &mut [u8], bytes: [u8; 10]) -> Result<Ring, Refusal>
         requires { Valid self }
-        ensures { ((result.number, result.ring, area.new) ≡ added self area.old bytes) × Valid result.ring }
+        ensures added { (result, area.new) ≡ added self area.old bytes }
+        ensures valid { IfOk result Valid }
+        ensures refused { OnErr result (area.new ≡ area.old) }
     {
-        let next = self.next;
-        let held = self.held;
         if area.len() != BYTES {
-            return Answer {
-                number: 21,
-                ring: self,
-            };
+            return Err(Refusal::Area);
         }
-        if held == PLACES {
-            return Answer {
-                number: 19,
-                ring: self,
-            };
+        if self.held == PLACES {
+            return Err(Refusal::Full);
         }
-        store(area, 10 * next, bytes);
-        let ring = Ring {
-            next: (next + 1) % PLACES,
-            held: held + 1,
-        };
-        Answer { number: 0, ring }
-    }
-}
-
-// Stores a record's ten bytes from a byte of the area on.
-fn store(area: &mut [u8], at: usize, bytes: [u8; 10])
-    requires { at + 10 ≤ length area.old }
-    ensures { area.new ≡ sets area.old at bytes }
-{
-    let mut i = 0;
-    while i < 10 {
-        area[at + i] = bytes[i];
-        i += 1;
+        let at = 10 * self.next;
+        area[at..at + 10].copy_from_slice(&bytes);
+        Ok(Ring {
+            next: (self.next + 1) % PLACES,
+            held: self.held + 1,
+        })
     }
 }

@@ -7,13 +7,14 @@ mod adding;
 mod releasing;
 
 ghost use Rattle.std.specs.Prelude.{◌≡◌};
-ghost use Rattle.record_ring.specs.Log.{empty, place_of, Valid};
+ghost use Rattle.record_ring.specs.Log.{empty, place_of, refusal_number, Valid};
 
 // How many records are held at most, and the bytes of the area that they lie in.
 pub const PLACES: usize = 6000;
 
 pub const BYTES: usize = 60000;
 
+// C keeps a log between the calls, so that it is valid is asked by the calls and no part of the type.
 #[repr(C)]
 #[derive(Clone, Copy)]
 pub struct Ring {
@@ -23,12 +24,28 @@ pub struct Ring {
     pub held: usize,
 }
 
-// What a call answers: 0, or the number of its refusal; and the log after it.
-#[repr(C)]
-#[derive(Clone, Copy)]
-pub struct Answer {
-    pub number: u8,
-    pub ring: Ring,
+// Why a call is refused.
+#[derive(Clone, Copy, PartialEq, Eq)]
+pub enum Refusal {
+    // 6,000 records are held.
+    Full,
+    // Fewer are held than are to be released.
+    NotHeld,
+    // The area has not 60,000 bytes.
+    Area,
+}
+
+impl Refusal {
+    // Its number in answers.
+    pub fn number(self) -> u8
+        ensures { result ≡ refusal_number self }
+    {
+        match self {
+            Refusal::Full => 19,
+            Refusal::NotHeld => 20,
+            Refusal::Area => 21,
+        }
+    }
 }
 
 impl Ring {
@@ -47,12 +64,11 @@ impl Ring {
     }
 
     // The place of the oldest record held, from which it is read; where none is held, that of the next.
+    #[tactic(auto, unfolding(crate::specs::Log::place_of))]
     pub fn oldest(self) -> usize
         requires { Valid self }
         ensures { result ≡ place_of self 0 }
     {
-        let next = self.next;
-        let held = self.held;
-        (next + (PLACES - held)) % PLACES
+        (self.next + (PLACES - self.held)) % PLACES
     }
 }

@@ -1,34 +1,27 @@
 // The shell has read records, and their places are free.
 
-ghost use Rattle.std.specs.Prelude.{◌≡◌};
+ghost use Rattle.std.specs.Prelude.{◌≡◌, IfOk};
 ghost use Rattle.record_ring.specs.Log.{released, Valid};
 
-use crate::{Answer, BYTES, Ring};
+use crate::{BYTES, Refusal, Ring};
 
 impl Ring {
-    // Releases the oldest records, as many as are said. A refused call changes nothing.
-    pub fn release(self, area: &[u8], count: usize) -> Answer
+    // Releases the oldest records, as many as are said. A refused call changes nothing: the caller keeps the log that it has.
+    #[tactic(auto, unfolding(crate::specs::Log::released))]
+    pub fn release(self, area: &[u8], count: usize) -> Result<Ring, Refusal>
         requires { Valid self }
-        ensures { ((result.number, result.ring, area.now) ≡ released self area.now count) × Valid result.ring }
+        ensures released { (result, area.now) ≡ released self area.now count }
+        ensures valid { IfOk result Valid }
     {
-        let next = self.next;
-        let held = self.held;
         if area.len() != BYTES {
-            return Answer {
-                number: 21,
-                ring: self,
-            };
+            return Err(Refusal::Area);
         }
-        if held < count {
-            return Answer {
-                number: 20,
-                ring: self,
-            };
+        if self.held < count {
+            return Err(Refusal::NotHeld);
         }
-        let ring = Ring {
-            next,
-            held: held - count,
-        };
-        Answer { number: 0, ring }
+        Ok(Ring {
+            next: self.next,
+            held: self.held - count,
+        })
     }
 }

@@ -1,19 +1,19 @@
 // A watchdog's answers in numbers.
 
-ghost use Rattle.std.specs.Prelude.{◌≡◌};
+ghost use Rattle.std.specs.Prelude.{◌≡◌, ℕ, List};
 ghost use Rattle.watchdog.specs.declared.calls.Call.{Call};
 ghost use Rattle.oscillator.specs.State.{Valid};
-ghost use Rattle.watchdog.specs.Outcome.{number_of, values_of};
+ghost use Rattle.watchdog.specs.Outcome.{refused, number_of, values_of, heard};
 ghost use Rattle.replies.specs.Watchdogs.{report_of, watched_of, Reported};
 
-use oscillator::next::Next;
 use oscillator::state::Watchdog;
 use time::units::Cycle;
 use watchdog::calls;
-use watchdog::outcome::{Answer, Outcome};
+use watchdog::outcome::{Answer, Outcome, Refusal};
 
 // number is the refusal's, 0 for none. what is 0 for no value, 1 for WDTCSR, 2 for the next event's cycle, 3 for none to
-// come, 4 for the sync cycle of an advance that stopped; value has it. written counts the area's bytes.
+// come, 4 for the sync cycle of an advance that stopped; value has it. written counts the area's bytes. C reads it: so numbers,
+// and no `Result`.
 #[repr(C)]
 #[derive(Clone, Copy)]
 pub struct Report {
@@ -32,52 +32,59 @@ pub struct Watched {
 }
 
 impl Report {
-    // Yields a report from its four numbers.
-    fn new(number: u8, what: u8, value: u64, written: usize) -> Report
-        ensures { result ≡ record { number = number; what = what; value = value; written = written } }
+    // Yields an accepted call's answer in numbers.
+    fn of(outcome: Outcome) -> Report
+        ensures { result ≡ report_of 0 (values_of outcome.answer) outcome.written }
     {
+        let (what, value) = match outcome.answer {
+            Answer::Done => (0, 0),
+            Answer::Value(value) => (1, u64::from(value)),
+            Answer::Next(Some(cycle)) => (2, cycle.0),
+            Answer::Next(None) => (3, 0),
+            Answer::Paused(cycle) => (4, cycle.0),
+        };
         Report {
-            number,
+            number: 0,
             what,
             value,
-            written: written as u64,
+            written: outcome.written as u64,
         }
     }
 
-    // Yields an outcome's answer in numbers.
-    fn of(o: Outcome) -> Report
-        ensures { result ≡ report_of (number_of o.answer) (values_of o.answer) o.written }
+    // Yields a refusal in numbers.
+    fn refused(why: Refusal) -> Report
+        ensures { result ≡ report_of (number_of why) refused 0 }
     {
-        let answer = o.answer;
-        let written = o.written;
-        match answer {
-            Answer::Refused(n) => Report::new(n, 0, 0, written),
-            Answer::Done => Report::new(0, 0, 0, written),
-            Answer::Value(v) => Report::new(0, 1, v as u64, written),
-            Answer::Next(n) => match n {
-                Next::At(c) => Report::new(0, 2, c.0, written),
-                Next::Never => Report::new(0, 3, 0, written),
-            },
-            Answer::Paused(c) => Report::new(0, 4, c.0, written),
+        Report {
+            number: why.number(),
+            what: 0,
+            value: 0,
+            written: 0,
         }
     }
 }
 
-// Yields an outcome's watchdog, and its answer in numbers.
-pub fn reported(o: Outcome) -> Watched
-    ensures { result ≡ watched_of o }
+// Yields the watchdog after a call, which a refusal leaves as it was, and the call's answer in numbers.
+pub fn reported(w: Watchdog, answered: Result<Outcome, Refusal>) -> Watched
+    ensures { (area : List ℕ) → result ≡ watched_of (heard w answered area) }
 {
-    let watchdog = o.watchdog;
-    Watched {
-        watchdog,
-        report: Report::of(o),
+    match answered {
+        Ok(outcome) => Watched {
+            watchdog: outcome.watchdog,
+            report: Report::of(outcome),
+        },
+        Err(why) => Watched {
+            watchdog: w,
+            report: Report::refused(why),
+        },
     }
 }
 
 // WDTCSR is written.
+#[tactic(auto, using(crate::proofs::Reported::reports))]
 pub fn written(w: Watchdog, value: u8, cycle: u64) -> Watched
     requires { Valid w }
     ensures { Reported w (Call.Write value) cycle result }
 {
-    reported(calls::write(w, value, Cycle(cycle)))
+    reported(w, calls::write(w, value, Cycle(cycle)))
 }

@@ -16,14 +16,11 @@ pub const ROOM: usize = 4096;
 pub type Room = [u8; ROOM];
 
 // Fills an area.
+#[tactic(auto, unfolding(crate::specs::Room::filled))]
 pub fn fill(area: &mut [u8])
     ensures { area.new ≡ filled (length area.old) }
 {
-    let mut i = 0;
-    while i < area.len() {
-        area[i] = FILL;
-        i += 1;
-    }
+    area.fill(FILL);
 }
 
 // The first place behind what was written that a call changed, else the area's end.

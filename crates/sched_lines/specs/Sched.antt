@@ -1,58 +1,68 @@
 -- The scheduler's lines (docs/SCRIPT.md, "Pins and the scheduler"): what is asked, the scheduler after it and the answer's bytes.
-use Rattle.std.specs.Prelude.{ℕ, ◌-◌, ◌%◌, ◌^◌, ◌≡◌, cond, ◌||◌, List, [], ◌++◌, eqb, leb, ltb, length}
-use Rattle.std.proofs.Math.Option.{Option, none, some}
+use Rattle.std.specs.Prelude.{ℕ, ◌-◌, ◌%◌, ◌^◌, ◌≡◌, ◌==◌, cond, List, [], ◌++◌, length, nat_lt, Option, Some, None, Result, Ok, Err}
+use Rattle.std.specs.Str.{bytes_eq}
 use Rattle.events.specs.Events.{earliest}
 use Rattle.events.specs.declared.Event.{Event}
+use Rattle.events.specs.declared.EventKey.{EventKey}
 use Rattle.figures.specs.Figures.{text, number}
 use Rattle.page.specs.Page.{Puts, unreadable_of}
+use Rattle.scheduler.specs.declared.Full.{Full}
+use Rattle.scheduler.specs.declared.Popping.{Popping}
 use Rattle.scheduler.specs.declared.Scheduler.{Scheduler}
-use Rattle.scheduler.specs.Scheduler.{holding, held, Valid, scheduled, removed, cycle_of, popped}
-use Rattle.words.specs.declared.Cursor.{Cursor}
-use Rattle.words.specs.declared.Taken.{Taken}
-use Rattle.words.specs.Words.{find_of, skip_of, place_of, exactly_of}
-use Rattle.words.specs.Numbers.{among, between, next_of, nothing_of}
+use Rattle.scheduler.specs.Scheduler.{scheduled, removed, cycle_of, popped}
+use Rattle.words.specs.declared.Unreadable.{Unreadable}
+use Rattle.words.specs.declared.Unreadable.TheVariants as unreadable
+use Rattle.words.specs.Words.{find_of, skip_of, exactly_of, and_then}
+use Rattle.words.specs.Numbers.{between, next_of}
 use Rattle.sched_lines.specs.declared.Asked.{Asked}
-use Rattle.sched_lines.specs.declared.Left.{Left}
+use Rattle.sched_lines.specs.declared.Asked.TheVariants as asked
 
 -- ---- what is asked
 
--- "at OWNER TAG CYCLE", "cancel OWNER TAG", "is OWNER TAG", "pop CYCLE", "clear": the place of a call's name, and how many words follow it
-abbrev pub call_of : List ℕ → ℕ
-call_of word = place_of (text "at cancel is pop clear") word
+-- the two words of a key, and where they end
+unfoldable pub key_of : List ℕ → ℕ → Result (EventKey × ℕ) Unreadable
+key_of line at =
+    and_then (next_of line at 10 255) (λ owner.
+    and_then (next_of line owner.end 10 255) (λ tag. Ok (record { owner = owner.value % 256; tag = tag.value % 256 }, tag.end)))
 
-unfoldable pub arguments_of : ℕ → ℕ
-arguments_of name = cond (eqb name 0) 3 (cond (among 1 2 name) 2 (cond (eqb name 3) 1 0))
+-- a cycle
+abbrev pub when_of : List ℕ → ℕ → (ℕ → Asked) → Result Asked Unreadable
+when_of line at call = and_then (next_of line at 10 (2 ^ 64 - 1)) (λ cycle. Ok (call cycle.value))
 
--- a byte of a call that has a key
-unfoldable pub byte_of : List ℕ → Cursor → ℕ → Taken
-byte_of line c name = cond (leb name 2) (next_of line c 10 255) (nothing_of c)
+-- so many words, which are counted first
+abbrev pub counted_of : List ℕ → ℕ → ℕ → Result Asked Unreadable → Result Asked Unreadable
+counted_of line at wanted read = and_then (exactly_of line at wanted) (λ _. read)
 
--- the cycle of a call that has one
-unfoldable pub when_of : List ℕ → Cursor → ℕ → Taken
-when_of line c name = cond (eqb name 0 || eqb name 3) (next_of line c 10 (2 ^ 64 - 1)) (nothing_of c)
+-- "at OWNER TAG CYCLE", "cancel OWNER TAG", "is OWNER TAG", "pop CYCLE", "clear": what follows the name, "read from left to right"; "unknown command" of any other
+unfoldable pub words_of : List ℕ → List ℕ → ℕ → Result Asked Unreadable
+words_of name line at =
+    cond (bytes_eq name (text "at")) (counted_of line at 3 (and_then (key_of line at) (λ k. when_of line k.1 (asked.At k.0))))
+    (cond (bytes_eq name (text "cancel")) (counted_of line at 2 (and_then (key_of line at) (λ k. Ok (asked.Cancel k.0))))
+    (cond (bytes_eq name (text "is")) (counted_of line at 2 (and_then (key_of line at) (λ k. Ok (asked.Is k.0))))
+    (cond (bytes_eq name (text "pop")) (counted_of line at 1 (when_of line at asked.Pop))
+    (cond (bytes_eq name (text "clear")) (counted_of line at 0 (Ok asked.Clear)) (Err unreadable.UnknownCommand)))))
 
--- what follows the name, "read from left to right"
-unfoldable pub asked_of : List ℕ → ℕ → ℕ → Asked
-asked_of line at name =
-    let owner = byte_of line (exactly_of line at (arguments_of name)) name in
-    let tag = byte_of line owner.next name in
-    let cycle = when_of line tag.next name in
-    record { name = name; key = record { owner = owner.value % 256; tag = tag.value % 256 }; cycle = cycle.value; why = cycle.next.why }
+-- from the place after the line's name: "missing word" where there is none
+unfoldable pub asked_of : List ℕ → ℕ → Result Asked Unreadable
+asked_of line at =
+    let start = skip_of line at in
+    let end = find_of line start 32 in
+    cond (start == length line) (Err unreadable.MissingWord) (words_of (between line start end) line end)
 
 -- ---- answers
 
 -- a label and a cycle; none where it is the largest
 unfoldable pub until_of : List ℕ → ℕ → List ℕ
-until_of label n = cond (ltb n (2 ^ 64 - 1)) (label ++ number n) (label ++ text "none")
+until_of label n = cond (nat_lt n (2 ^ 64 - 1)) (label ++ number n) (label ++ text "none")
 
 -- "ok next=N"
 abbrev pub next_line : Scheduler → List ℕ
-next_line s = until_of (text "ok next=") (earliest (held s))
+next_line s = until_of (text "ok next=") (earliest s)
 
 -- "ok at=N", "ok at=none"
 unfoldable pub at_line : Option ℕ → List ℕ
-at_line (some cycle) = text "ok at=" ++ number cycle
-at_line none = text "ok at=none"
+at_line (Some cycle) = text "ok at=" ++ number cycle
+at_line None = text "ok at=none"
 
 -- "ok owner=O tag=T at=N next=M"
 unfoldable pub event_line : Event → ℕ → List ℕ
@@ -61,50 +71,41 @@ event_line e next =
 
 -- "ok none where nothing is due"
 unfoldable pub pop_line : Option Event → ℕ → List ℕ
-pop_line (some e) next = event_line e next
-pop_line none next = text "ok none"
-
--- "refused 11", or the next cycle
-unfoldable pub at_answer : ℕ → Scheduler → List ℕ
-at_answer number s = cond (eqb number 0) (next_line s) (text "refused 11")
+pop_line (Some e) next = event_line e next
+pop_line None next = text "ok none"
 
 -- ---- the scheduler after a line, and the line's answer
 
--- after `at`, `pop`, and the calls that answer the next cycle
-abbrev pub set_of : ℕ × Scheduler → Scheduler × List ℕ
-set_of r = (r.1, at_answer r.0 r.1)
+-- after `at`: "refused 11", or the next cycle
+unfoldable pub set_of : Scheduler → Result Scheduler Full → Scheduler × List ℕ
+set_of s (Ok after) = (after, next_line after)
+set_of s (Err why) = (s, text "refused " ++ number 11)
 
-abbrev pub popped_of : Option Event × Scheduler → Scheduler × List ℕ
-popped_of r = (r.1, pop_line r.0 (earliest (held r.1)))
+-- after `pop`, and after the calls that answer the next cycle
+abbrev pub popped_of : Popping → Scheduler × List ℕ
+popped_of p = (p.scheduler, pop_line p.due (earliest p.scheduler))
 
 abbrev pub fewer_of : Scheduler → Scheduler × List ℕ
 fewer_of s = (s, next_line s)
 
 -- a call
 unfoldable pub called_of : Asked → Scheduler → Scheduler × List ℕ
-called_of a s =
-    cond (eqb a.name 0) (set_of (scheduled a.key a.cycle s))
-    (cond (eqb a.name 1) (fewer_of (holding (removed a.key (held s))))
-    (cond (eqb a.name 2) (s, at_line (cycle_of a.key (held s)))
-    (cond (eqb a.name 3) (popped_of (popped a.cycle s)) (fewer_of (holding [])))))
+called_of (asked.At key cycle) s = set_of s (scheduled key cycle s)
+called_of (asked.Cancel key) s = fewer_of (removed key s)
+called_of (asked.Is key) s = (s, at_line (cycle_of key s))
+called_of (asked.Pop now) s = popped_of (popped now s)
+called_of asked.Clear s = fewer_of []
 
 -- a line that cannot be read changes nothing
-abbrev pub unread_of : Scheduler → ℕ → ℕ → Scheduler × List ℕ
-unread_of s nth why = (s, unreadable_of nth why)
+unfoldable pub heard_of : Scheduler → ℕ → Result Asked Unreadable → Scheduler × List ℕ
+heard_of s nth (Ok q) = called_of q s
+heard_of s nth (Err why) = (s, unreadable_of nth why)
 
--- the nth line, from the place after its name: "missing word" is 4, "unknown command" 1
-unfoldable pub sched_of : Scheduler → ℕ → List ℕ → ℕ → Scheduler × List ℕ
-sched_of s nth line at =
-    let start = skip_of line at in
-    let end = find_of line start 32 in
-    let name = call_of (between line start end) in
-    let asked = asked_of line end name in
-    cond (eqb start (length line)) (unread_of s nth 4)
-    (cond (ltb 4 name) (unread_of s nth 1)
-    (cond (eqb asked.why 0) (called_of asked s) (unread_of s nth asked.why)))
+-- the nth line, from the place after its name
+abbrev pub sched_of : Scheduler → ℕ → List ℕ → ℕ → Scheduler × List ℕ
+sched_of s nth line at = heard_of s nth (asked_of line at)
 
--- what a line leaves: a scheduler that the calls keep, and its answer on the page
-pub record Leaves (old : List ℕ) (from : ℕ) (new : List ℕ) (left : Left) (answer : Scheduler × List ℕ) : Type 0 where
-  pub after : left.scheduler ≡ answer.0
-  pub bytes : Puts old from new left.at answer.1
-  pub valid : Valid left.scheduler
+-- what a line leaves: a scheduler, valid as its model says, and its answer on the page
+pub record Leaves (old new : List ℕ) (left : Scheduler) (answer : Scheduler × List ℕ) : Type 0 where
+  pub after : left ≡ answer.0
+  pub bytes : Puts old new answer.1

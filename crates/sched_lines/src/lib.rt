@@ -4,219 +4,185 @@
 
 ghost use Rattle.std.specs.Prelude.{◌≡◌};
 ghost use Rattle.page.specs.Page.{Puts};
-ghost use Rattle.scheduler.specs.Scheduler.{Valid, held, scheduled as scheduled_of, cycle_of, popped as popped_of};
-ghost use Rattle.sched_lines.specs.Sched.{arguments_of, byte_of, when_of, asked_of, until_of, next_line, at_line, event_line, set_of, popped_of as afterPop, fewer_of, called_of, unread_of, sched_of, Leaves};
+ghost use Rattle.sched_lines.specs.Sched.{key_of, words_of, asked_of, until_of, next_line, at_line, event_line, pop_line, called_of, sched_of, Leaves};
 
-use page::{Page, number, text, unreadable};
-use scheduler::{Answer, Due, Event, EventKey, Scheduled, Scheduler};
-use words::{
-    Cursor, FINE, MISSING_WORD, Taken, UNKNOWN_COMMAND, decimal, exactly, find, low8, none, place,
-    skip,
-};
+use page::Page;
+use scheduler::{Event, EventKey, Popping, Scheduler};
+use words::{Unreadable, decimal, exactly, find, low8, skip};
 
-// A call by its place among the names, with its words.
+// A call with its words.
 #[derive(Clone, Copy)]
-struct Asked {
-    name: usize,
-    key: EventKey,
-    cycle: u64,
-    why: u8,
+enum Asked {
+    At { key: EventKey, cycle: u64 },
+    Cancel(EventKey),
+    Is(EventKey),
+    Pop(u64),
+    Clear,
 }
 
-// How many words a call has.
-fn arguments(name: usize) -> usize
-    ensures { result ≡ arguments_of name }
+// Reads the two words of a key, and where they end.
+#[tactic(auto, unfolding(crate::specs::Sched::key_of, words::specs::Words::and_then))]
+fn key(line: &[u8], at: usize) -> Result<(EventKey, usize), Unreadable>
+    ensures { result ≡ key_of line.now at }
 {
-    match name {
-        0 => 3,
-        1..=2 => 2,
-        3 => 1,
-        _ => 0,
-    }
-}
-
-// A byte of a call that has a key.
-fn byte_of(line: &[u8], c: Cursor, name: usize) -> Taken
-    ensures { result ≡ byte_of line.now c name }
-{
-    match name {
-        0..=2 => decimal(line, c, 0xff),
-        _ => none(c),
-    }
-}
-
-// The cycle of a call that has one.
-fn cycle_of(line: &[u8], c: Cursor, name: usize) -> Taken
-    ensures { result ≡ when_of line.now c name }
-{
-    match name {
-        0 => decimal(line, c, u64::MAX),
-        3 => decimal(line, c, u64::MAX),
-        _ => none(c),
-    }
-}
-
-// Reads what follows the name.
-fn read(line: &[u8], at: usize, name: usize) -> Asked
-    ensures { result ≡ asked_of line.now at name }
-{
-    let start = exactly(line, at, arguments(name));
-    let owner = byte_of(line, start, name);
-    let tag = byte_of(line, owner.next, name);
-    let cycle = cycle_of(line, tag.next, name);
-    let end = cycle.next;
+    let owner = decimal(line, at, 0xff)?;
+    let tag = decimal(line, owner.end, 0xff)?;
     let key = EventKey {
         owner: low8(owner.value),
         tag: low8(tag.value),
     };
-    Asked {
-        name,
-        key,
-        cycle: cycle.value,
-        why: end.why,
+    Ok((key, tag.end))
+}
+
+// Reads the words of a call, which are counted first.
+#[tactic(auto, unfolding(crate::specs::Sched::words_of, words::specs::Words::and_then, figures::specs::Figures::codes))]
+fn words(name: &[u8], line: &[u8], at: usize) -> Result<Asked, Unreadable>
+    ensures { result ≡ words_of name.now line.now at }
+{
+    match name {
+        b"at" => {
+            exactly(line, at, 3)?;
+            let (key, end) = key(line, at)?;
+            let cycle = decimal(line, end, u64::MAX)?.value;
+            Ok(Asked::At { key, cycle })
+        }
+        b"cancel" => {
+            exactly(line, at, 2)?;
+            Ok(Asked::Cancel(key(line, at)?.0))
+        }
+        b"is" => {
+            exactly(line, at, 2)?;
+            Ok(Asked::Is(key(line, at)?.0))
+        }
+        b"pop" => {
+            exactly(line, at, 1)?;
+            Ok(Asked::Pop(decimal(line, at, u64::MAX)?.value))
+        }
+        b"clear" => {
+            exactly(line, at, 0)?;
+            Ok(Asked::Clear)
+        }
+        _ => Err(Unreadable::UnknownCommand),
+    }
+}
+
+impl Asked {
+    // What a line asks for, from a place on.
+    #[tactic(auto, unfolding(crate::specs::Sched::asked_of))]
+    fn of(line: &[u8], at: usize) -> Result<Asked, Unreadable>
+        ensures { result ≡ asked_of line.now at }
+    {
+        let start = skip(line, at);
+        if start == line.len() {
+            return Err(Unreadable::MissingWord);
+        }
+        let end = find(line, start, b' ');
+        words(&line[start..end], line, end)
     }
 }
 
 // Puts a label and a cycle, none where it is the largest.
-fn cycle(page: &mut Page, from: usize, label: &[u8], n: u64) -> usize
-    ensures { Puts page.old from page.new result (until_of label.now n) }
+#[tactic(auto, using(page::proofs::Sheets::then), unfolding(crate::specs::Sched::until_of, figures::specs::Figures::codes))]
+fn cycle(page: &mut Page, label: &[u8], n: u64)
+    ensures { Puts page.old page.new (until_of label.now n) }
 {
     if n < u64::MAX {
-        return number(page, from, label, n);
+        page.number(label, n);
+    } else {
+        page.text(label);
+        page.text(b"none");
     }
-    let at = text(page, from, label);
-    text(page, at, b"none")
 }
 
 // Puts a scheduler's next cycle.
-fn next(page: &mut Page, at: usize, s: Scheduler) -> usize
-    requires { Valid s }
-    ensures { Puts page.old at page.new result (next_line s) }
+#[tactic(auto, unfolding(figures::specs::Figures::codes))]
+fn next(page: &mut Page, s: Scheduler)
+    ensures { Puts page.old page.new (next_line s) }
 {
-    cycle(page, at, b"ok next=", s.next())
+    cycle(page, b"ok next=", s.next());
 }
 
-// Puts the cycle of a key.
-fn scheduled(page: &mut Page, at: usize, s: Scheduler, key: EventKey) -> usize
-    requires { Valid s }
-    ensures { Puts page.old at page.new result (at_line (cycle_of key (held s))) }
+// Puts the cycle at which a key is scheduled.
+#[tactic(auto, unfolding(crate::specs::Sched::at_line, figures::specs::Figures::codes))]
+fn scheduled(page: &mut Page, at: Option<u64>)
+    ensures { Puts page.old page.new (at_line at) }
 {
-    let scheduled = s.is_scheduled(key);
-    match scheduled {
-        Scheduled::At(cycle) => number(page, at, b"ok at=", cycle),
-        Scheduled::Never => text(page, at, b"ok at=none"),
+    match at {
+        Some(cycle) => page.number(b"ok at=", cycle),
+        None => page.text(b"ok at=none"),
     }
 }
 
 // Puts an event that was due, and the next cycle.
-fn popped(page: &mut Page, from: usize, event: Event, next: u64) -> usize
-    ensures { Puts page.old from page.new result (event_line event next) }
+#[tactic(auto, using(page::proofs::Sheets::then), unfolding(crate::specs::Sched::event_line, figures::specs::Figures::codes))]
+fn event(page: &mut Page, event: Event, next: u64)
+    ensures { Puts page.old page.new (event_line event next) }
 {
-    let key = event.key;
-    let at = number(page, from, b"ok owner=", key.owner as u64);
-    let at = number(page, at, b" tag=", key.tag as u64);
-    let at = number(page, at, b" at=", event.cycle);
-    cycle(page, at, b" next=", next)
+    page.number(b"ok owner=", event.key.owner as u64);
+    page.number(b" tag=", event.key.tag as u64);
+    page.number(b" at=", event.cycle);
+    cycle(page, b" next=", next);
 }
 
-// What a call leaves: the scheduler, and the place after its answer.
-#[derive(Clone, Copy)]
-pub struct Left {
-    pub scheduler: Scheduler,
-    pub at: usize,
-}
-
-// Schedules an event.
-fn set(s: Scheduler, asked: Asked, page: &mut Page, at: usize) -> Left
-    requires { Valid s }
-    ensures { Leaves page.old at page.new result (set_of (scheduled_of asked.key asked.cycle s)) }
+// Puts the event that was due, if there is one.
+#[tactic(auto, unfolding(crate::specs::Sched::pop_line, figures::specs::Figures::codes))]
+fn popped(page: &mut Page, due: Option<Event>, next: u64)
+    ensures { Puts page.old page.new (pop_line due next) }
 {
-    let setting = s.at(asked.key, asked.cycle);
-    let scheduler = setting.scheduler;
-    let answer = setting.answer;
-    let at = match answer {
-        Answer::Accepted => next(page, at, scheduler),
-        Answer::Refused => text(page, at, b"refused 11"),
-    };
-    Left { scheduler, at }
-}
-
-// Takes the earliest event that is due.
-fn pop(s: Scheduler, cycle: u64, page: &mut Page, at: usize) -> Left
-    requires { Valid s }
-    ensures { Leaves page.old at page.new result (afterPop (popped_of cycle s)) }
-{
-    let popping = s.pop_due(cycle);
-    let scheduler = popping.scheduler;
-    let next = scheduler.next();
-    let due = popping.due;
-    let at = match due {
-        Due::Popped(event) => popped(page, at, event, next),
-        Due::Nothing => text(page, at, b"ok none"),
-    };
-    Left { scheduler, at }
-}
-
-// Takes a scheduler that has fewer events, and puts its next cycle.
-fn fewer(s: Scheduler, page: &mut Page, at: usize) -> Left
-    requires { Valid s }
-    ensures { Leaves page.old at page.new result (fewer_of s) }
-{
-    let at = next(page, at, s);
-    Left { scheduler: s, at }
+    match due {
+        Some(due) => event(page, due, next),
+        None => page.text(b"ok none"),
+    }
 }
 
 // Hands a call to the scheduler, and puts its answer.
-fn call(s: Scheduler, asked: Asked, page: &mut Page, at: usize) -> Left
-    requires { Valid s }
-    ensures { Leaves page.old at page.new result (called_of asked s) }
+#[tactic(auto, unfolding(crate::specs::Sched::called_of, crate::specs::Sched::set_of, figures::specs::Figures::codes))]
+fn call(s: Scheduler, asked: Asked, page: &mut Page) -> Scheduler
+    ensures { Leaves page.old page.new result (called_of asked s) }
 {
-    let name = asked.name;
-    match name {
-        0 => set(s, asked, page, at),
-        1 => fewer(s.cancel(asked.key), page, at),
-        2 => Left {
-            scheduler: s,
-            at: scheduled(page, at, s, asked.key),
+    match asked {
+        Asked::At { key, cycle } => match s.at(key, cycle) {
+            Ok(after) => {
+                next(page, after);
+                after
+            }
+            Err(why) => {
+                page.number(b"refused ", why.number() as u64);
+                s
+            }
         },
-        3 => pop(s, asked.cycle, page, at),
-        _ => fewer(s.clear(), page, at),
+        Asked::Cancel(key) => {
+            let after = s.cancel(key);
+            next(page, after);
+            after
+        }
+        Asked::Is(key) => {
+            scheduled(page, s.is_scheduled(key));
+            s
+        }
+        Asked::Pop(now) => {
+            let Popping { due, scheduler } = s.pop_due(now);
+            popped(page, due, scheduler.next());
+            scheduler
+        }
+        Asked::Clear => {
+            let after = s.clear();
+            next(page, after);
+            after
+        }
     }
 }
 
-// Leaves the scheduler as it is, and puts why the nth line cannot be read.
-fn unread(s: Scheduler, page: &mut Page, from: usize, nth: u64, why: u8) -> Left
-    requires { Valid s }
-    ensures { Leaves page.old from page.new result (unread_of s nth why) }
+// Answers a sched line, the nth of the script, from the place after its name. A line that cannot be read leaves the scheduler as it is.
+#[tactic(auto, unfolding(crate::specs::Sched::heard_of))]
+pub fn sched_line(s: Scheduler, page: &mut Page, nth: u64, line: &[u8], at: usize) -> Scheduler
+    ensures { Leaves page.old page.new result (sched_of s nth line.now at) }
 {
-    let at = unreadable(page, from, nth, why);
-    Left { scheduler: s, at }
-}
-
-// Answers a sched line, the nth of the script, from the place after its name.
-pub fn sched_line(
-    s: Scheduler,
-    page: &mut Page,
-    from: usize,
-    nth: u64,
-    line: &[u8],
-    at: usize,
-) -> Left
-    requires { Valid s }
-    ensures { Leaves page.old from page.new result (sched_of s nth line.now at) }
-{
-    let start = skip(line, at);
-    if start == line.len() {
-        return unread(s, page, from, nth, MISSING_WORD);
+    match Asked::of(line, at) {
+        Ok(asked) => call(s, asked, page),
+        Err(why) => {
+            page.unreadable(nth, why);
+            s
+        }
     }
-    let end = find(line, start, b' ');
-    let name = place(b"at cancel is pop clear", &line[start..end]);
-    if 4 < name {
-        return unread(s, page, from, nth, UNKNOWN_COMMAND);
-    }
-    let asked = read(line, end, name);
-    if asked.why != FINE {
-        return unread(s, page, from, nth, asked.why);
-    }
-    call(s, asked, page, from)
 }

@@ -6,7 +6,9 @@ use native.Mathlib.Decide.{dec_lt}
 use mathlib.Core.Path.{◌≡◌, refl, sym, ap, ◌∙◌}
 use mathlib.Core.Bool.{Bool, true, false, cond, not, ◌&&◌}
 use mathlib.Core.List.{List, [], ◌∷◌, ◌++◌}
-use mathlib.Core.Option.{Option, none, some}
+use Rattle.std.specs.Prelude.{Some, None, Result, Ok, Err}
+use Rattle.std.specs.Result.{result_unwrap_or}
+use Rattle.std.proofs.lemmas.List.Sums.{passes_at_first}
 use lib.Dec.{eqb, ltb, leb}
 use lib.ListN.{length, get_or, set, length-set, length-append, get_or-append}
 use lib.Seq.{get_or-set_same, get_or-set_other, get_or-append_seam}
@@ -14,12 +16,12 @@ use borrow.Author.Tests.{eqb-true, eqb-false, eq-eqb, ltb-true, ltb-false}
 use Rattle.events.specs.declared.EventKey.{EventKey}
 use Rattle.events.specs.declared.Event.{Event}
 use Rattle.scheduler.specs.declared.Scheduler.{Scheduler}
+use Rattle.scheduler.specs.declared.Full.{Full}
+use Rattle.scheduler.specs.declared.Popping.{Popping}
 use Rattle.events.specs.Events.{blank, same, place_of, earliest, foremost, swap_removed}
-use Rattle.scheduler.specs.Scheduler.{holding, held, holds, refuses, put, scheduled, removed, popped, Valid}
+use Rattle.scheduler.specs.Scheduler.{holds, refuses, put, scheduled, removed, popped}
 use Rattle.scheduler.specs.Runs.{Call, at, cancel, is_scheduled, pop_due, clear, next, after, run, Sound, Always}
-use Rattle.events.proofs.Lists.{position-passes, position-within, earliest-low, earliest-met, foremost-within, from, length-swap, get_or-swap, from-within}
-use Rattle.events.proofs.Places.{kept, count-is}
-use Rattle.scheduler.proofs.Calls.{made}
+use Rattle.events.proofs.Lists.{position-within, earliest-low, earliest-met, foremost-within, from, length-swap, get_or-swap, from-within}
 
 -- ---- keys
 
@@ -55,7 +57,7 @@ set-good l e g h =
     key i true t =
         rw (eqb-true i (place_of e.key l) t)
         (ap (λ (x : Event). x.key) (get_or-set_same l (place_of e.key l) e blank h)
-        ∙ sym (same_key (get_or l (place_of e.key l) blank).key e.key (position-passes (λ x. same x.key e.key) l h)))
+        ∙ sym (same_key (get_or l (place_of e.key l) blank).key e.key (passes_at_first (λ x. same x.key e.key) l blank h)))
     key i false t = ap (λ (x : Event). x.key) (get_or-set_other l (place_of e.key l) i e blank (eqb-false i (place_of e.key l) t))
 
 -- an event of a new key goes to the end
@@ -125,38 +127,29 @@ removed-good key l g = go (holds key l) refl
 
 -- ---- the calls
 
-record Kept (s : Scheduler) : Type 0 where
-  valid : Valid s
-  good : Good (held s)
-
-holding-kept : (l : List Event) → Good l → Kept (holding l)
-holding-kept l g =
-    let p = kept {l = l} refl g.room in
-    record { valid = (made p.1 p.0 refl).1; good = rw p.0 g }
-
-after_kept : (s : Scheduler) (call : Call) → Kept s → Kept (after s call)
+after-good : (s : Scheduler) (call : Call) → Good s → Good (after s call)
 unfolding after scheduled popped
-after_kept s (at key cycle) k = go (refuses key (held s)) refl
+after-good s (at key cycle) g = go (refuses key s) refl
   where
-    go : (b : Bool) → refuses key (held s) ≡ b → Kept (cond {A = ℕ × Scheduler} b (11, s) (0, holding (put key cycle (held s)))).1
-    go true r = k
-    go false r = holding-kept (put key cycle (held s)) (put-good key cycle (held s) k.good r)
-after_kept s (cancel key) k = holding-kept (removed key (held s)) (removed-good key (held s) k.good)
-after_kept s (is_scheduled key) k = k
-after_kept s (pop_due now) k = go (leb (earliest (held s)) now) (ltb 0 (length (held s))) refl
+    go : (b : Bool) → refuses key s ≡ b → Good (result_unwrap_or (cond {A = Result Scheduler Full} b (Err (record {})) (Ok (put key cycle s))) s)
+    go true r = g
+    go false r = put-good key cycle s g r
+after-good s (cancel key) g = removed-good key s g
+after-good s (is_scheduled key) g = g
+after-good s (pop_due now) g = go (leb (earliest s) now) (ltb 0 (length s)) refl
   where
-    go : (a b : Bool) → ltb 0 (length (held s)) ≡ b
-        → Kept (cond {A = Option Event × Scheduler} (a && b) (some (get_or (held s) (foremost (held s)) blank), holding (swap_removed (foremost (held s)) (held s))) (none, s)).1
-    go true true r = holding-kept (swap_removed (foremost (held s)) (held s)) (swap-good (held s) (foremost (held s)) k.good (foremost-within (held s) (ltb-true 0 (length (held s)) r)))
-    go true false r = k
-    go false b r = k
-after_kept s clear k = holding-kept [] none-good
-after_kept s next k = k
+    go : (a b : Bool) → ltb 0 (length s) ≡ b
+        → Good (cond {A = Popping} (a && b) (record { due = Some (get_or s (foremost s) blank); scheduler = swap_removed (foremost s) s }) (record { due = None; scheduler = s })).scheduler
+    go true true r = swap-good s (foremost s) g (foremost-within s (ltb-true 0 (length s) r))
+    go true false r = g
+    go false b r = g
+after-good s clear g = none-good
+after-good s next g = g
 
-run-kept : (s : Scheduler) (calls : List Call) → Kept s → Kept (run s calls)
+run-good : (s : Scheduler) (calls : List Call) → Good s → Good (run s calls)
 unfolding run
-run-kept s [] k = k
-run-kept s (call ∷ calls) k = run-kept (after s call) calls (after_kept s call k)
+run-good s [] g = g
+run-good s (call ∷ calls) g = run-good (after s call) calls (after-good s call g)
 
 -- nothing is held
 empty : (l : List Event) → length l ≡ 0 → earliest l ≡ 2 ^ 64 - 1
@@ -164,24 +157,12 @@ unfolding earliest
 empty [] h = refl
 empty (e ∷ l) h = absurd (suc-ne-zero (length l) h)
 
-kept-sound : {s : Scheduler} → Kept s → Sound s
-kept-sound {s} k =
-    let c = k.valid.cached in
-    record {
-      valid = k.valid;
-      once = k.good.once;
-      room = k.valid.packed.room;
-      low = λ i h. rw c (earliest-low (held s) i h);
-      met = λ h. rw c (earliest-met (held s) h);
-      none = λ h. c ∙ empty (held s) h;
-    }
+good-sound : {s : Scheduler} → Good s → Sound s
+good-sound {s} g = record { once = g.once; room = g.room; low = earliest-low s; met = earliest-met s; none = empty s }
 
 pub always : Always
-always calls = kept-sound (run-kept (holding []) calls (holding-kept [] none-good))
+always calls = good-sound (run-good [] calls none-good)
 
 -- one call more
 pub after-sound : (s : Scheduler) (call : Call) → Sound s → Sound (after s call)
-after-sound s call x =
-    let n = count-is s.events x.valid.packed in
-    let r = x.room in
-    kept-sound (after_kept s call (record { valid = x.valid; good = record { once = x.once; room = omega arith } }))
+after-sound s call x = good-sound (after-good s call (record { once = x.once; room = x.room }))

@@ -3,12 +3,13 @@
 
 #![tactic(auto)]
 
-ghost use Rattle.std.specs.Prelude.{min, ◌≡◌, []};
-ghost use Rattle.events.specs.Events.{list_in, earliest, Packed};
-ghost use Rattle.scheduler.specs.Scheduler.{holding, held, Valid, number_of, cycle_in, event_in, scheduled, removed, cycle_of, popped};
+ghost use Rattle.std.specs.Prelude.{◌≡◌, []};
+ghost use Rattle.events.specs.Events.{earliest};
+ghost use Rattle.scheduler.specs.Scheduler.{scheduled, removed, cycle_of, popped};
 
+use events::Events;
 pub use events::{Event, EventKey};
-use events::{Events, PLACES};
+use std::marker::Model;
 
 #[repr(C)]
 #[derive(Clone, Copy)]
@@ -18,169 +19,139 @@ pub struct Scheduler {
     next: u64,
 }
 
-// What `at` answers: a new key is refused when 64 are held.
-#[derive(Clone, Copy)]
-pub enum Answer {
-    Accepted,
-    Refused,
+// Contracts see the list of events held, from which the cycle kept beside it follows.
+impl Model for Scheduler {
+    ghost use Rattle.std.specs.Prelude.{List, ◌≡◌};
+    ghost use Rattle.events.specs.declared.Event.{Event};
+    ghost use Rattle.events.specs.Events.{earliest};
+
+    ghost Value = { List Event };
+
+    ghost view = { λ s. s.events };
+
+    ghost invariant = { λ s. s.next ≡ earliest s.events };
+
+    ghost inverse = { λ l. record { events = l; next = earliest l } };
 }
 
-#[derive(Clone, Copy)]
-pub struct Setting {
-    pub answer: Answer,
-    pub scheduler: Scheduler,
+// Why a new key is refused: 64 events are held.
+#[derive(Clone, Copy, PartialEq, Eq)]
+pub struct Full;
+
+impl Full {
+    // The number of this refusal.
+    pub fn number(self) -> u8
+        ensures { result ≡ 11 }
+    {
+        11
+    }
 }
 
-// What `is_scheduled` answers.
-#[derive(Clone, Copy)]
-pub enum Scheduled {
-    At(u64),
-    Never,
-}
-
-// What `pop_due` answers.
-#[derive(Clone, Copy)]
-pub enum Due {
-    Popped(Event),
-    Nothing,
-}
-
+// What `pop_due` takes out, and what it leaves.
 #[derive(Clone, Copy)]
 pub struct Popping {
-    pub due: Due,
+    pub due: Option<Event>,
     pub scheduler: Scheduler,
 }
 
 impl Scheduler {
     // A scheduler that holds no event.
     pub fn new() -> Self
-        ensures { (result ≡ holding []) × Valid result }
+        ensures { result ≡ [] }
     {
-        Scheduler::recomputed(Events::new())
+        Scheduler::of(Events::new())
     }
 
-    // Schedules (or re-schedules) `key` at `cycle`. A refused call changes nothing.
-    pub fn at(self, key: EventKey, cycle: u64) -> Setting
-        requires { Valid self }
-        ensures { ((number_of result.answer, result.scheduler) ≡ scheduled key cycle self) × Valid result.scheduler }
+    // Schedules (or re-schedules) `key` at `cycle`. Where it is refused, the scheduler that was passed stays the one.
+    #[tactic(auto, unfolding(crate::specs::Scheduler::scheduled, crate::specs::Scheduler::put))]
+    pub fn at(self, key: EventKey, cycle: u64) -> Result<Scheduler, Full>
+        ensures { result ≡ scheduled key cycle self }
     {
         let events = self.events;
         let event = Event { key, cycle };
-        let i = events.position(key);
-        if i < events.count {
-            let scheduler = Scheduler::recomputed(events.set(i, event));
-            return Setting {
-                answer: Answer::Accepted,
-                scheduler,
-            };
+        if let Some(place) = events.position(key) {
+            return Ok(Scheduler::of(events.set(place, event)));
         }
-        if events.count == PLACES {
-            return Setting {
-                answer: Answer::Refused,
-                scheduler: self,
-            };
+        if events.is_full() {
+            return Err(Full);
         }
-        let scheduler = Scheduler {
+        Ok(Scheduler {
             events: events.push(event),
-            next: least(self.next, cycle),
-        };
-        Setting {
-            answer: Answer::Accepted,
-            scheduler,
-        }
+            next: self.next.min(cycle),
+        })
     }
 
     // Removes the event of `key`, if there is one.
+    #[tactic(auto, unfolding(crate::specs::Scheduler::removed))]
     pub fn cancel(self, key: EventKey) -> Self
-        requires { Valid self }
-        ensures { (result ≡ holding (removed key (held self))) × Valid result }
+        ensures { result ≡ removed key self }
     {
         let events = self.events;
-        let i = events.position(key);
-        if i < events.count {
-            let event = events.get(i);
-            let rest = events.swap_remove(i);
-            if event.cycle <= self.next {
-                return Scheduler::recomputed(rest);
-            }
-            return Scheduler {
-                events: rest,
-                next: self.next,
-            };
+        let Some(place) = events.position(key) else {
+            return self;
+        };
+        let rest = events.swap_remove(place);
+        if events.get(place).cycle <= self.next {
+            return Scheduler::of(rest);
         }
-        self
+        Scheduler {
+            events: rest,
+            next: self.next,
+        }
     }
 
     // The cycle at which `key` is scheduled.
-    pub fn is_scheduled(self, key: EventKey) -> Scheduled
-        requires { Valid self }
-        ensures { cycle_in result ≡ cycle_of key (held self) }
+    #[tactic(auto, unfolding(crate::specs::Scheduler::cycle_of))]
+    pub fn is_scheduled(self, key: EventKey) -> Option<u64>
+        ensures { result ≡ cycle_of key self }
     {
-        let events = self.events;
-        let i = events.position(key);
-        if i < events.count {
-            let event = events.get(i);
-            return Scheduled::At(event.cycle);
-        }
-        Scheduled::Never
+        let place = self.events.position(key)?;
+        Some(self.events.get(place).cycle)
     }
 
     // Removes and answers the earliest event due at or before `now`; of equal cycles the first in the vector's order.
+    #[tactic(auto, unfolding(crate::specs::Scheduler::popped))]
     pub fn pop_due(self, now: u64) -> Popping
-        requires { Valid self }
-        ensures { ((event_in result.due, result.scheduler) ≡ popped «now» self) × Valid result.scheduler }
+        ensures { result ≡ popped «now» self }
     {
-        let events = self.events;
-        if self.next > now {
-            return Popping {
-                due: Due::Nothing,
+        let due = if self.next > now {
+            None
+        } else {
+            self.events.first_at(self.next)
+        };
+        match due {
+            Some(place) => Popping {
+                due: Some(self.events.get(place)),
+                scheduler: Scheduler::of(self.events.swap_remove(place)),
+            },
+            None => Popping {
+                due: None,
                 scheduler: self,
-            };
-        }
-        if events.count == 0 {
-            return Popping {
-                due: Due::Nothing,
-                scheduler: self,
-            };
-        }
-        let i = events.earliest().place;
-        let event = events.get(i);
-        let scheduler = Scheduler::recomputed(events.swap_remove(i));
-        Popping {
-            due: Due::Popped(event),
-            scheduler,
+            },
         }
     }
 
     // Removes every event.
     pub fn clear(self) -> Self
-        ensures { (result ≡ holding []) × Valid result }
+        ensures { result ≡ [] }
     {
         Scheduler::new()
     }
 
     // The cycle of the earliest event, 2^64 - 1 when there is none.
     pub fn next(self) -> u64
-        requires { Valid self }
-        ensures { result ≡ earliest (held self) }
+        ensures { result ≡ earliest self }
     {
         self.next
     }
 
     // The scheduler of these events.
-    fn recomputed(events: Events) -> Self
-        requires { Packed events }
-        ensures { (result ≡ holding (list_in events)) × Valid result }
+    fn of(events: Events) -> Self
+        ensures { result ≡ events }
     {
         Scheduler {
             events,
-            next: events.earliest().cycle,
+            next: events.earliest(),
         }
     }
-}
-
-fn least(a: u64, b: u64) -> u64
-    ensures { result ≡ min a b }
-{
-    if b < a { b } else { a }
 }

@@ -3,19 +3,35 @@
 
 #![tactic(auto)]
 
-ghost use Rattle.std.specs.Prelude.{◌<◌, ◌^◌};
-ghost use Rattle.scheduler.specs.Scheduler.{Valid};
+ghost use Rattle.std.specs.Prelude.{◌<◌};
 
-use scheduler::{Answer, Due, EventKey, Scheduled, Scheduler};
+use scheduler::{EventKey, Scheduler};
+use std::fmt;
 
-fn draw(seed: u64) -> u64
-    requires { seed < 2 ^ 31 }
-    ensures { result < 2 ^ 31 }
-{
-    (seed * 1103515245 + 12345) % 2147483648
+#[derive(Clone, Copy)]
+enum Call {
+    At(EventKey, u64),
+    Cancel(EventKey),
+    IsScheduled(EventKey),
+    PopDue(u64),
+    Clear,
 }
 
-fn key_of(seed: u64) -> EventKey {
+#[derive(Clone, Copy)]
+struct Key(EventKey);
+
+impl fmt::Display for Key {
+    fn fmt<W: fmt::Write>(&self, f: &mut fmt::Formatter<W>) -> fmt::Result {
+        let EventKey { owner, tag } = self.0;
+        write!(f, "{owner} {tag}")
+    }
+}
+
+fn draw(seed: u32) -> u32 {
+    ((seed as u64 * 1103515245 + 12345) % 2147483648) as u32
+}
+
+fn key_of(seed: u32) -> EventKey {
     let k = seed / 65536 % 80;
     EventKey {
         owner: (k / 16) as u8,
@@ -24,164 +40,104 @@ fn key_of(seed: u64) -> EventKey {
 }
 
 // One of ten cycles that rise with the step, so that many are equal, or the largest.
-fn cycle_of(step: u64, seed: u64) -> u64
+fn cycle_of(step: u64, seed: u32) -> u64
     requires { step < 840 }
 {
-    let c = seed / 1024 % 12;
-    if c > 9 {
-        0xffff_ffff_ffff_ffff
-    } else {
-        step / 16 + c
-    }
-}
-
-fn put(rt: &impl Print, text: &[u8]) {
-    let _ = rt.write_all(text);
-}
-
-fn put_number(rt: &impl Print, n: u64) {
-    let _ = print!(rt; " {n}");
-}
-
-fn put_key(rt: &impl Print, key: EventKey) {
-    put_number(rt, key.owner as u64);
-    put_number(rt, key.tag as u64);
-}
-
-fn at(rt: &impl Print, s: Scheduler, key: EventKey, cycle: u64) -> Scheduler
-    requires { Valid s }
-    ensures { Valid result }
-{
-    put(rt, b"at");
-    put_key(rt, key);
-    put_number(rt, cycle);
-    let set = s.at(key, cycle);
-    let answer = set.answer;
-    match answer {
-        Answer::Accepted => put_number(rt, 0),
-        Answer::Refused => put_number(rt, 11),
-    }
-    set.scheduler
-}
-
-fn cancel(rt: &impl Print, s: Scheduler, key: EventKey) -> Scheduler
-    requires { Valid s }
-    ensures { Valid result }
-{
-    put(rt, b"cancel");
-    put_key(rt, key);
-    s.cancel(key)
-}
-
-fn is_scheduled(rt: &impl Print, s: Scheduler, key: EventKey) -> Scheduler
-    requires { Valid s }
-    ensures { Valid result }
-{
-    put(rt, b"is");
-    put_key(rt, key);
-    let scheduled = s.is_scheduled(key);
-    match scheduled {
-        Scheduled::At(cycle) => put_number(rt, cycle),
-        Scheduled::Never => put(rt, b" never"),
-    }
-    s
-}
-
-fn pop_due(rt: &impl Print, s: Scheduler, now: u64) -> Scheduler
-    requires { Valid s }
-    ensures { Valid result }
-{
-    put(rt, b"pop");
-    put_number(rt, now);
-    let pop = s.pop_due(now);
-    let due = pop.due;
-    match due {
-        Due::Popped(event) => {
-            put_key(rt, event.key);
-            put_number(rt, event.cycle);
-        }
-        Due::Nothing => put(rt, b" nothing"),
-    }
-    pop.scheduler
-}
-
-fn clear(rt: &impl Print, s: Scheduler) -> Scheduler
-    requires { Valid s }
-    ensures { Valid result }
-{
-    put(rt, b"clear");
-    s.clear()
+    let c = seed as u64 / 1024 % 12;
+    if c > 9 { u64::MAX } else { step / 16 + c }
 }
 
 // A call while the scheduler fills up.
-fn filling(rt: &impl Print, s: Scheduler, kind: u64, key: EventKey, cycle: u64) -> Scheduler
-    requires { Valid s }
-    ensures { Valid result }
-{
+fn filling(kind: u32, key: EventKey, cycle: u64) -> Call {
     match kind {
-        0 => cancel(rt, s, key),
-        1 => is_scheduled(rt, s, key),
-        2 => pop_due(rt, s, cycle),
-        _ => at(rt, s, key, cycle),
+        0 => Call::Cancel(key),
+        1 => Call::IsScheduled(key),
+        2 => Call::PopDue(cycle),
+        _ => Call::At(key, cycle),
     }
 }
 
 // A call while it is emptied.
-fn emptying(
-    rt: &impl Print,
-    s: Scheduler,
-    kind: u64,
-    key: EventKey,
-    cycle: u64,
-    step: u64,
-) -> Scheduler
-    requires { Valid s }
-    ensures { Valid result }
-{
+fn emptying(kind: u32, key: EventKey, cycle: u64, step: u64) -> Call {
     match kind {
-        0..=2 => at(rt, s, key, cycle),
-        3..=4 => cancel(rt, s, key),
-        5 => is_scheduled(rt, s, key),
-        6..=14 => pop_due(rt, s, cycle),
-        _ => if step % 5 == 0 {
-            clear(rt, s)
-        } else {
-            pop_due(rt, s, cycle)
-        },
+        0..=2 => Call::At(key, cycle),
+        3..=4 => Call::Cancel(key),
+        5 => Call::IsScheduled(key),
+        15 if step % 5 == 0 => Call::Clear,
+        _ => Call::PopDue(cycle),
     }
 }
 
 // The call of a step.
-fn call(rt: &impl Print, s: Scheduler, step: u64, seed: u64) -> Scheduler
-    requires { Valid s × (step < 840) }
-    ensures { Valid result }
+fn call_of(step: u64, seed: u32) -> Call
+    requires { step < 840 }
 {
     let kind = seed / 65536 / 80 % 16;
     let key = key_of(seed);
     let cycle = cycle_of(step, seed);
     if step % 420 < 300 {
-        filling(rt, s, kind, key, cycle)
+        filling(kind, key, cycle)
     } else {
-        emptying(rt, s, kind, key, cycle, step)
+        emptying(kind, key, cycle, step)
     }
 }
 
-fn put_next(rt: &impl Print, s: Scheduler)
-    requires { Valid s }
-{
-    put(rt, b" next");
-    put_number(rt, s.next());
-    put(rt, b"\n");
+fn at(rt: &impl Print, s: Scheduler, key: EventKey, cycle: u64) -> Scheduler {
+    let _ = print!(rt; "at {} {cycle}", Key(key));
+    match s.at(key, cycle) {
+        Ok(scheduler) => {
+            let _ = print!(rt; " 0");
+            scheduler
+        }
+        Err(full) => {
+            let _ = print!(rt; " {}", full.number());
+            s
+        }
+    }
+}
+
+fn is_scheduled(rt: &impl Print, s: Scheduler, key: EventKey) -> Scheduler {
+    let _ = print!(rt; "is {}", Key(key));
+    let _ = match s.is_scheduled(key) {
+        Some(cycle) => print!(rt; " {cycle}"),
+        None => print!(rt; " never"),
+    };
+    s
+}
+
+fn pop_due(rt: &impl Print, s: Scheduler, now: u64) -> Scheduler {
+    let _ = print!(rt; "pop {now}");
+    let popping = s.pop_due(now);
+    let _ = match popping.due {
+        Some(event) => print!(rt; " {} {}", Key(event.key), event.cycle),
+        None => print!(rt; " nothing"),
+    };
+    popping.scheduler
+}
+
+// Makes a call, and prints it with its answer.
+fn make(rt: &impl Print, s: Scheduler, call: Call) -> Scheduler {
+    match call {
+        Call::At(key, cycle) => at(rt, s, key, cycle),
+        Call::Cancel(key) => {
+            let _ = print!(rt; "cancel {}", Key(key));
+            s.cancel(key)
+        }
+        Call::IsScheduled(key) => is_scheduled(rt, s, key),
+        Call::PopDue(now) => pop_due(rt, s, now),
+        Call::Clear => {
+            let _ = print!(rt; "clear");
+            s.clear()
+        }
+    }
 }
 
 fn main(rt: HostRuntime) {
     let mut s = Scheduler::new();
     let mut seed = 1;
-    let mut step = 0;
-    while step < 840 {
+    for step in 0..840 {
         seed = draw(seed);
-        s = call(&rt, s, step, seed);
-        put_next(&rt, s);
-        step += 1;
+        s = make(&rt, s, call_of(step, seed));
+        let _ = println!(rt; " next {}", s.next());
     }
 }

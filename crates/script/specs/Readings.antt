@@ -1,10 +1,11 @@
 -- Readings: the configuration that each preset gives (docs/SCRIPT.md, "Presets, by the sheets"), and that it keeps the rules (01).
-use Rattle.std.specs.Prelude.{ℕ, ◌+◌, true, false, ◌≡◌}
+use Rattle.std.specs.Prelude.{ℕ, ◌+◌, true, false, ◌≡◌, Ok}
+use Rattle.words.specs.Words.{and_then}
 use Rattle.config.specs.declared.Config.{Config}
 use Rattle.config.specs.Config.{accepted, no_compare, no_capture}
 use Rattle.m328p.specs.Timers.{wire, compare, timer0, timer1, timer2}
 use Rattle.script.specs.Presets.{preset_keys}
-use Rattle.script.specs.Configs.{given_of}
+use Rattle.script.specs.Configs.{config_of}
 
 -- a timer of the ATmega2560: its id, first address, PRR bit, and the pins OCnA, OCnB, OCnC, ICPn and Tn
 abbrev pub m2560 : ℕ → ℕ → ℕ → ℕ → ℕ → ℕ → ℕ → ℕ → Config
@@ -62,7 +63,7 @@ m16timer1 =
 
 -- the preset at a place gives a configuration, which is accepted
 pub record Reads (n : ℕ) (c : Config) : Type 0 where
-  pub gives : given_of (preset_keys n) ≡ record { config = c; why = 0 }
+  pub gives : and_then (preset_keys n) (λ k. Ok (config_of k)) ≡ Ok c
   pub kept : accepted c ≡ true
 
 -- the ten, in the order of their names

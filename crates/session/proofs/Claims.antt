@@ -1,18 +1,21 @@
 -- What is proved of a script in a session beside the functions.
-use Prim.Native.Nat.{ℕ, ◌+◌, ◌≤◌}
+use Rattle.std.specs.Prelude.{Ok, Err, Result, ⊤}
+use Prim.Native.Nat.{ℕ}
 use native.Mathlib.Omega.{arith}
 use mathlib.Core.Bool.{Bool, true, false, cond}
 use mathlib.Core.List.{List, [], ◌∷◌, ◌++◌, append_assoc, foldl-append}
 use mathlib.Core.Path.{◌≡◌, refl, ap, ◌∙◌}
 use lib.Dec.{eqb}
-use lib.ListN.{length, length-append}
+use lib.ListN.{length-append}
 use Rattle.figures.specs.Figures.{text}
 use Rattle.page.specs.Page.{unreadable_of}
 use Rattle.page.proofs.Lengths.{either}
 use Rattle.linewise.specs.Claims.{Read, reading, feed, fed}
 use Rattle.bench_lines.specs.Steps.{State, step_of}
-use Rattle.bench_lines.specs.Claims.{longest}
 use Rattle.bench_lines.proofs.Claims.{longest-holds}
+use Rattle.words.specs.declared.Unreadable.TheVariants as unreadable
+use Rattle.session.specs.declared.settles.Fault.{Fault}
+use Rattle.session.specs.declared.settles.Fault.TheVariants as fault
 use Rattle.session.specs.Files.{asks_of, settled_of, Filed, filed, file_of}
 use Rattle.session.specs.Claims.{TakesLine, TakesAll, PieceAfterPiece, FiledLongest}
 use Rattle.session.proofs.Settling.{unwritten-short, unopened-short}
@@ -46,12 +49,12 @@ takes_all s bytes (b ∷ bs) = all-byte s bytes bs b (eqb b 10) (takes_all (step
 -- ---- piece after piece
 
 pub piece-after-piece : PieceAfterPiece
-piece-after-piece s bytes first second b b' shelf shelf' count count' l l' one two line one' two' line' x y = record {
+piece-after-piece s bytes first second b b' shelf shelf' l l' one two line one' two' line' x y = record {
   whys = x.whys ++ y.whys;
   answers = y.answers;
   rest = y.rest;
   feeds = λ more.
-      ap (λ (q : List ℕ). fed file_of (reading (filed s q) bytes) (first ++ second)) (append_assoc x.whys y.whys more)
+      ap (λ (q : List (Result ⊤ Fault)). fed file_of (reading (filed s q) bytes) (first ++ second)) (append_assoc x.whys y.whys more)
       ∙ foldl-append (feed file_of) (reading (filed s (x.whys ++ (y.whys ++ more))) bytes) first second
       ∙ ap (λ (q : Read Filed). fed file_of q second) (x.feeds (y.whys ++ more))
       ∙ y.feeds more;
@@ -62,11 +65,13 @@ piece-after-piece s bytes first second b b' shelf shelf' count count' l l' one t
 
 pub filed-longest : FiledLongest
 unfolding settled_of
-filed-longest s line why =
-    let within : State → Type 0 = λ t. length t.answers ≤ length s.answers + longest in
-    let nth = (step_of s line).bench.line in
+filed-longest s line (Ok done) = longest-holds.0 s line
+filed-longest s line (Err fault.NotWritten) =
     let a = length-append s.answers (text "door.log not written\n") in
-    let b = length-append s.answers (unreadable_of nth why ++ 10 ∷ []) in
     let m = unwritten-short in
-    let n = unopened-short nth why in
-    either within (eqb why 0) (longest-holds.0 s line) (either within (eqb why 255) (omega arith) (omega arith))
+    omega arith
+filed-longest s line (Err fault.NotOpened) =
+    let nth = (step_of s line).bench.line in
+    let b = length-append s.answers (unreadable_of nth unreadable.NotOpened ++ 10 ∷ []) in
+    let n = unopened-short nth unreadable.NotOpened in
+    omega arith

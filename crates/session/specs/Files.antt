@@ -1,10 +1,13 @@
--- A script and the file that records go to (docs/SCRIPT.md): what a line leaves once the file has answered. 0: it took all; 255: it "does not take a call's records"; else it "cannot be opened".
-use Rattle.std.specs.Prelude.{ℕ, Bool, cond, ◌||◌, List, [], ◌∷◌, ◌++◌, eqb, ltb}
+-- A script and the file that records go to (docs/SCRIPT.md): what a line leaves once the file has answered: it took all, it "does not take a call's records", or it "cannot be opened".
+use Rattle.std.specs.Prelude.{ℕ, Bool, cond, ◌||◌, List, [], ◌∷◌, ◌++◌, ltb, Result, Ok, Err, ⊤}
 use Rattle.figures.specs.Figures.{text}
 use Rattle.page.specs.Page.{unreadable_of}
+use Rattle.words.specs.declared.Unreadable.TheVariants as unreadable
 use Rattle.bench_lines.specs.declared.desk.Bench.{Bench}
 use Rattle.bench_lines.specs.Steps.{State, step_of}
 use Rattle.bench_lines.specs.Claims.{left}
+use Rattle.session.specs.declared.settles.Fault.{Fault}
+use Rattle.session.specs.declared.settles.Fault.TheVariants as fault
 
 -- ---- a line
 
@@ -15,31 +18,31 @@ asks_of b = b.anew || ltb 0 b.kept
 -- a bench at another line
 abbrev pub at_line : Bench → ℕ → Bench
 at_line b line =
-    record { socket = b.socket; watched = b.watched; doors = b.doors; ring = b.ring; items = b.items; line = line; whose = b.whose; kept = b.kept; anew = b.anew }
+    record { timer = b.timer; watchdog = b.watchdog; door = b.door; ring = b.ring; line = line; whose = b.whose; kept = b.kept; anew = b.anew }
 
 -- by the state before the line, the one after it, and the file's answer: "`door.log not written` stands in place of that call's answer", or why it cannot be opened, "and then nothing has changed" but the line's number and the
 -- bytes that the line was lent
-unfoldable pub settled_of : State → State → ℕ → State
-settled_of was s why =
-    cond (eqb why 0) s
-    (cond (eqb why 255) (left s.bench s.shelf s.lent s.one s.two (was.answers ++ text "door.log not written\n"))
-    (left (at_line was.bench s.bench.line) was.shelf s.lent s.one s.two (was.answers ++ (unreadable_of s.bench.line why ++ 10 ∷ []))))
+unfoldable pub settled_of : State → State → Result ⊤ Fault → State
+settled_of was s (Ok done) = s
+settled_of was s (Err fault.NotWritten) = left s.bench s.shelf s.lent s.one s.two (was.answers ++ text "door.log not written\n")
+settled_of was s (Err fault.NotOpened) =
+    left (at_line was.bench s.bench.line) was.shelf s.lent s.one s.two (was.answers ++ (unreadable_of s.bench.line unreadable.NotOpened ++ 10 ∷ []))
 
 -- a line, and the file's answer
-abbrev pub filed_step : State → List ℕ → ℕ → State
-filed_step s line why = settled_of s (step_of s line) why
+abbrev pub filed_step : State → List ℕ → Result ⊤ Fault → State
+filed_step s line answer = settled_of s (step_of s line) answer
 
 -- ---- a script
 
 -- what a script leaves, and what the file has still to answer to the lines that ask: once that is nothing it takes all
 pub record Filed : Type 0 where
   pub state : State
-  pub whys : List ℕ
+  pub whys : List (Result ⊤ Fault)
 
-abbrev pub filed : State → List ℕ → Filed
+abbrev pub filed : State → List (Result ⊤ Fault) → Filed
 filed s whys = record { state = s; whys = whys }
 
-abbrev pub answer_of : State → State → List ℕ → Filed
+abbrev pub answer_of : State → State → List (Result ⊤ Fault) → Filed
 answer_of was s [] = filed s []
 answer_of was s (why ∷ whys) = filed (settled_of was s why) whys
 

@@ -1,22 +1,22 @@
 -- One chunk more, of either pass.
-use Prim.Native.Nat.{ℕ, zero, suc, ◌+◌, ◌-◌, ◌≤◌, ◌<◌, min}
+use Prim.Native.Nat.{ℕ, zero, suc, ◌+◌, ◌≤◌}
 use native.Mathlib.Omega.{arith}
-use native.Mathlib.Nat.{min-le_right}
 use mathlib.Core.Path.{◌≡◌, refl, sym, ap, ◌∙◌}
 use mathlib.Core.Bool.{Bool, true, false, cond, not, ◌&&◌}
 use mathlib.Core.List.{List, [], ◌∷◌, ◌++◌, append_assoc, append-nil}
 use lib.Dec.{eqb, leb}
-use lib.IntN.{ℤ, pos, negsuc}
 use lib.ListN.{length, take, length-append}
 use lib.Seq.{length-take-le}
-use lib.Signed.{lt_z}
-use borrow.Author.Tests.{leb-true, lt-leb, eqb-false}
+use borrow.Author.Tests.{leb-true, eqb-false}
+use Rattle.std.specs.Prelude.{Option, None, Some, unwrap_or}
 use Rattle.pieces.specs.Pieces.{Bytes, joined}
 use Rattle.pieces.proofs.Claims.{bytes_take}
 use Rattle.verdict.specs.Refusal.{longest}
+use Rattle.soak.specs.declared.input.State.{State}
+use Rattle.soak.specs.declared.input.State.TheVariants as state
 use Rattle.soak.specs.declared.input.Input.{Input}
-use Rattle.soak.specs.Input.{Opens, after_read, clamp_len, Reads, more}
-use Rattle.soak.specs.Passes.{Chunks}
+use Rattle.soak.specs.Input.{after_read, chunk_of, was_opened, has_failed, has_ended, is_open, failed, ended, more, Reads}
+use Rattle.soak.specs.Passes.{Chunks, Pass}
 
 -- ---- chunks
 
@@ -30,72 +30,84 @@ bytes-append [] b h k i = k i
 bytes-append (x ∷ a) b h k zero = h 0
 bytes-append (x ∷ a) b h k (suc i) = bytes-append a b (λ j. h (suc j)) k i
 
--- ---- how far a pass may go
+-- ---- the next chunk
 
--- how many bytes a pass may still read, and one more
-abbrev pub to_go : Input → ℕ
-to_go i = cond (more i) (suc longest - i.bytes) 0
+-- a chunk was read
+pub record ReadsChunk (i : Input) (area : List ℕ) (n : ℕ) (r : Input) : Type 0 where
+  pub within : i.bytes ≤ longest
+  pub some : 1 ≤ n
+  pub fits : n ≤ length area
+  pub state : r.state ≡ i.state
+  pub count : r.bytes ≡ i.bytes + n
+  pub bytes : Bytes area
 
-clamped-most : (got : ℤ) (most : ℕ) → clamp_len got most ≤ most
-clamped-most (pos k) most = min-le_right k most
-clamped-most (negsuc k) most = omega arith
+-- no chunk was read, and no more is
+pub record ReadsNone (i r : Input) : Type 0 where
+  pub opened : is_open r ≡ is_open i
+  pub count : r.bytes ≡ i.bytes
+  pub ends : more r ≡ false
 
 right : (a b : Bool) → a && b ≡ true → b ≡ true
 right true b e = e
 right false b e = cc
 
-module _ (i : Input) (m : more i ≡ true) where
-  -- where there may be more, no more than the longest log was read
-  pub within : i.bytes ≤ longest
-  within = leb-true i.bytes longest (right (not i.failed && not i.ended) (leb i.bytes longest) m)
+was-open : (s : State) (b : Bool) → not (has_failed s) && not (has_ended s) && b ≡ true → was_opened s ≡ true
+was-open state.Missing b e = cc
+was-open state.Open b e = refl
+was-open state.Ended b e = cc
+was-open state.Failed b e = cc
 
-  -- each read brings the pass on
-  pub goes_on : (r : Input) (area : List ℕ) → Reads i area r → to_go r < to_go i
-  goes_on r area h = rw (h.input, m) (go (clamp_len h.got (length area)) (lt_z h.got (pos 0)) (eqb (clamp_len h.got (length area)) 0) refl (leb (i.bytes + clamp_len h.got (length area)) longest))
+module _ (i r : Input) (area : List ℕ) where
+  pub reads-chunk : (n : ℕ) → Reads i area (Some n) r → ReadsChunk i area n r
+  reads-chunk n x = go (more i) x.answer refl x.fits x.input x.chunk
     where
-      go : (n : ℕ) (f z : Bool) → eqb n 0 ≡ z → (l : Bool) → cond (not f && not (not f && z) && l) (suc longest - (i.bytes + n)) 0 < suc longest - i.bytes
-      go n true z q l = let h = within in omega arith
-      go n false true q l = let h = within in omega arith
-      go n false false q true = let h = within in let k = eqb-false n 0 q in omega arith
-      go n false false q false = let h = within in omega arith
+      some : (k : ℕ) (z : Bool) → eqb k 0 ≡ z → more i ≡ true → k ≤ length area → r ≡ cond z (record i { state = state.Ended }) (record i { bytes = i.bytes + k }) → Some n ≡ cond z None (Some k) → ReadsChunk i area n r
+      some k true z m f e c = cc
+      some k false z m f e c =
+          let same : n ≡ k = cc in
+          let positive = eqb-false k 0 z in
+          record {
+            within = leb-true i.bytes longest (right (not (failed i) && not (ended i)) (leb i.bytes longest) m);
+            some = omega arith;
+            fits = omega arith;
+            state = rw e;
+            count = rw (e, same);
+            bytes = x.bytes;
+          }
+
+      go : (m : Bool) (a : Option ℕ) → more i ≡ m → unwrap_or a 0 ≤ length area → r ≡ cond m (after_read i a) i → Some n ≡ cond m (chunk_of a) None → ReadsChunk i area n r
+      go true (Some k) m f e c = some k (eqb k 0) refl m f e c
+      go true None m f e c = cc
+      go false a m f e c = cc
+
+  pub reads-none : Reads i area None r → ReadsNone i r
+  reads-none x = go (more i) x.answer refl x.input x.chunk
+    where
+      none : (k : ℕ) (z : Bool) → eqb k 0 ≡ z → more i ≡ true → r ≡ cond z (record i { state = state.Ended }) (record i { bytes = i.bytes + k }) → None ≡ cond z None (Some k) → ReadsNone i r
+      none k true z m e c = record { opened = rw (e, was-open i.state _ m); count = rw e; ends = rw e }
+      none k false z m e c = cc
+
+      go : (m : Bool) (a : Option ℕ) → more i ≡ m → r ≡ cond m (after_read i a) i → None ≡ cond m (chunk_of a) None → ReadsNone i r
+      go true (Some k) m e c = none k (eqb k 0) refl m e c
+      go true None m e c = record { opened = rw (e, was-open i.state _ m); count = rw e; ends = rw e }
+      go false a m e c = record { opened = rw e; count = rw e; ends = rw e m }
 
 -- ---- one chunk more
 
-count_fits : {i r : Input} {area : List ℕ} → Reads i area r → r.count ≤ length area
-count_fits {i} {r} {area} h = rw h.input (clamped-most h.got (length area))
-
--- so many bytes of the area
-module _ {i r : Input} {area : List ℕ} (h : Reads i area r) {n : ℕ} (e : n ≡ r.count) where
-  pub chunk-fits : n ≤ length area
-  chunk-fits = rw e (count_fits h)
-
-  pub chunk-counts : n ≡ length (take n area)
-  chunk-counts = sym (length-take-le n area chunk-fits)
-
-pub chunks-none : (i : Input) → Opens i → Chunks i []
+pub chunks-none : (i : Input) → i.bytes ≡ 0 → Chunks i []
 unfolding joined
-chunks-none i o = record { count = rw o.input; most = rw o.input (omega arith); bytes = λ k. omega arith }
+chunks-none i o = record { count = o; most = omega arith; bytes = λ k. omega arith }
 
-pub chunks-more : (i r : Input) (area : List ℕ) (chunks : List (List ℕ)) → more i ≡ true → length area ≡ 640 → Reads i area r → Chunks i chunks → Chunks r (chunks ++ take r.count area ∷ [])
-chunks-more i r area chunks m l h c =
-    let chunk = take r.count area in
-    let w = within i m in
-    let f = count_fits h in
-    let e : r.bytes ≡ i.bytes + r.count = rw h.input in
-    let n : length chunk ≡ r.count = length-take-le r.count area f in
+pub chunks-more : (i r : Input) (area : List ℕ) (n : ℕ) (chunks : List (List ℕ)) → length area ≡ 640 → ReadsChunk i area n r → Chunks i chunks → Chunks r (chunks ++ take n area ∷ [])
+chunks-more i r area n chunks l h c =
+    let chunk = take n area in
+    let k : length chunk ≡ n = length-take-le n area h.fits in
     record {
-      count = e ∙ rw (joined-more chunks chunk) (simp length-append (rw (n, c.count)));
+      count = h.count ∙ rw (joined-more chunks chunk) (simp length-append (rw (k, c.count)));
       most = omega arith;
-      bytes = rw (joined-more chunks chunk) (bytes-append (joined chunks) chunk c.bytes (bytes_take r.count area h.bytes));
+      bytes = rw (joined-more chunks chunk) (bytes-append (joined chunks) chunk c.bytes (bytes_take n area h.bytes));
     }
 
--- a chunk was read
-pub reads-chunk : (i r : Input) (got : ℤ) (n : ℕ) (area : List ℕ) → r ≡ after_read i got n → n ≡ clamp_len got (length area) → Bytes area → Reads i area r
-reads-chunk i r got n area e k b = record { got = got; input = e ∙ ap (after_read i got) k; bytes = b }
-
--- so many bytes were read
-pub reads_count : (i r : Input) (n : ℕ) (area : List ℕ) → r ≡ after_read i (pos 0) n → n ≤ length area → Bytes area → Reads i area r
-reads_count i r n area e k b =
-    let m : n ≡ min n (length area) = omega arith in
-    let f : lt_z (pos n) (pos 0) ≡ false = lt-leb (suc n) 0 (omega arith) in
-    record { got = pos n; input = e ∙ rw (f, ← m) refl; bytes = b }
+-- no chunk more
+pub chunks-end : (i r : Input) (chunks : List (List ℕ)) → ReadsNone i r → Chunks i chunks → Pass r chunks
+chunks-end i r chunks h c = record { read = record { count = h.count ∙ c.count; most = omega arith; bytes = c.bytes }; ends = h.ends }

@@ -5,18 +5,12 @@ use mathlib.Core.Path.{◌≡◌, sym, ap, ◌∙◌}
 use mathlib.Core.List.{List}
 use lib.ListN.{length, take}
 use lib.Seq.{length-take-le}
-use Rattle.figures.specs.Figures.{Wrote}
-use Rattle.figures.proofs.Writing.{wrote-read}
 use Rattle.soak.specs.declared.output.Output.{Output}
 use Rattle.soak.specs.Output.{wrote}
 
 pub record Prefix (area : List ℕ) (n : ℕ) (bytes : List ℕ) : Type 0 where
   pub fits : n ≤ length area
   pub same : take n area ≡ bytes
-
--- what was put at an area's start
-pub put-prefix : {old new : List ℕ} {n : ℕ} {bytes : List ℕ} → n ≤ length old → length new ≡ length old → Wrote old new 0 n bytes → Prefix new n bytes
-put-prefix m l w = record { fits = omega arith; same = wrote-read w m }
 
 module _ {area : List ℕ} {n : ℕ} {bytes : List ℕ} (f : Prefix area n bytes) where
   pub counts : n ≡ length (take n area)

@@ -1,44 +1,67 @@
 -- A file that is read chunk by chunk (02, 2.10): what each answer of the file leaves of it.
-use Rattle.std.specs.Prelude.{ℕ, ◌+◌, Bool, false, not, ◌&&◌, List, ◌≡◌, eqb, leb, ℤ, pos, negsuc, min, length}
-use Rattle.std.specs.Int.Signed.{lt_z}
+use Rattle.std.specs.Prelude.{ℕ, ◌+◌, ◌≤◌, ◌≡◌, Bool, true, false, cond, not, ◌&&◌, List, eqb, leb, length, Option, None, Some, unwrap_or}
 use Rattle.pieces.specs.Pieces.{Bytes}
 use Rattle.verdict.specs.Refusal.{longest}
+use Rattle.soak.specs.declared.input.State.{State}
+use Rattle.soak.specs.declared.input.State.TheVariants as state
 use Rattle.soak.specs.declared.input.Input.{Input}
 
--- `open` answers a descriptor, negative where the file cannot be opened
-abbrev pub opened_as : ℤ → Input
-opened_as fd = record { fd = fd; failed = lt_z fd (pos 0); ended = false; count = 0; bytes = 0 }
+-- a file that could not be opened
+abbrev pub missing : Input
+missing = record { state = state.Missing; bytes = 0 }
 
--- for some answer of `open`
-pub record Opens (r : Input) : Type 0 where
-  pub fd : ℤ
-  pub input : r ≡ opened_as fd
+-- a file that was opened
+abbrev pub opened : Input
+opened = record { state = state.Open; bytes = 0 }
 
--- `read` answers how many bytes it put into the area, none at the file's end, or a negative number where it fails
-abbrev pub after_read : Input → ℤ → ℕ → Input
-after_read i got count = record {
-  fd = i.fd;
-  failed = lt_z got (pos 0);
-  ended = not (lt_z got (pos 0)) && eqb count 0;
-  count = count;
-  bytes = i.bytes + count;
-}
+-- `read` answers how many bytes it put into the area, none at the file's end, or it fails
+abbrev pub after_read : Input → Option ℕ → Input
+after_read i (Some count) = cond (eqb count 0) (record i { state = state.Ended }) (record i { bytes = i.bytes + count })
+after_read i None = record i { state = state.Failed }
 
--- how many bytes an answer of `read` gives: never more than the area has, none where it fails
-abbrev pub clamp_len : ℤ → ℕ → ℕ
-clamp_len (pos k) most = min k most
-clamp_len (negsuc k) most = 0
+-- the bytes of the chunk, where there are any
+abbrev pub chunk_of : Option ℕ → Option ℕ
+chunk_of (Some count) = cond (eqb count 0) None (Some count)
+chunk_of None = None
 
--- for some answer of `read`
-pub record Reads (i : Input) (area : List ℕ) (r : Input) : Type 0 where
-  pub got : ℤ
-  pub input : r ≡ after_read i got (clamp_len got (length area))
-  pub bytes : Bytes area
+-- was the file opened
+abbrev pub was_opened : State → Bool
+was_opened state.Missing = false
+was_opened state.Open = true
+was_opened state.Ended = true
+was_opened state.Failed = true
+
+-- could the file not be opened or read
+abbrev pub has_failed : State → Bool
+has_failed state.Missing = true
+has_failed state.Open = false
+has_failed state.Ended = false
+has_failed state.Failed = true
+
+-- was the file read to its end
+abbrev pub has_ended : State → Bool
+has_ended state.Missing = false
+has_ended state.Open = false
+has_ended state.Ended = true
+has_ended state.Failed = false
+
+abbrev pub is_open : Input → Bool
+is_open i = was_opened i.state
+
+abbrev pub failed : Input → Bool
+failed i = has_failed i.state
+
+abbrev pub ended : Input → Bool
+ended i = has_ended i.state
 
 -- whether there may be more to read: nothing failed, the file is not at its end, and no more bytes were read than the longest log has
 abbrev pub more : Input → Bool
-more i = not i.failed && not i.ended && leb i.bytes longest
+more i = not (failed i) && not (ended i) && leb i.bytes longest
 
--- whether the file was opened
-abbrev pub is_open : Input → Bool
-is_open i = not (lt_z i.fd (pos 0))
+-- a call for the next chunk: for some answer of `read`, where there may be more to read
+pub record Reads (i : Input) (area : List ℕ) (count : Option ℕ) (r : Input) : Type 0 where
+  pub answer : Option ℕ
+  pub fits : unwrap_or answer 0 ≤ length area
+  pub input : r ≡ cond (more i) (after_read i answer) i
+  pub chunk : count ≡ cond (more i) (chunk_of answer) None
+  pub bytes : Bytes area

@@ -1,18 +1,18 @@
 -- The two passes over a file (02, 2.10): each is the fold of its chunks, for some answers of the file.
-use Rattle.std.specs.Prelude.{ℕ, ◌+◌, ◌≤◌, false, cond, List, [], ◌++◌, ◌≡◌, length}
+use Rattle.std.specs.Prelude.{ℕ, ◌+◌, ◌≤◌, true, false, cond, List, [], ◌++◌, ◌≡◌, length, Option, None, Some}
+use Rattle.std.specs.Option.{option_map}
 use Rattle.pieces.specs.Pieces.{Bytes, joined}
 use Rattle.verdict.specs.declared.Check.{Check}
 use Rattle.verdict.specs.Refusal.{longest}
 use Rattle.verdict.specs.Check.{fresh, refusal_in, pins_in}
 use Rattle.verdict.specs.Claims.{checked_all}
-use Rattle.dump.specs.declared.writer.Writer.{Writer}
-use Rattle.dump.specs.Answers.{Values, refused, short, written}
-use Rattle.dump.specs.Pieces.{header_of, begun, written_by, after}
+use Rattle.dump.specs.Pieces.{header_of, begun}
 use Rattle.dump.specs.Claims.{written_all}
+use Rattle.soak.specs.declared.refusal.Refusal.{Refusal}
+use Rattle.soak.specs.declared.refusal.Refusal.TheVariants as refusal
 use Rattle.soak.specs.declared.input.Input.{Input}
 use Rattle.soak.specs.declared.output.Output.{Output}
-use Rattle.soak.specs.declared.second_pass.Lines.{Lines}
-use Rattle.soak.specs.Input.{more, is_open}
+use Rattle.soak.specs.Input.{is_open, failed, ended, more}
 use Rattle.soak.specs.Output.{wrote}
 
 -- ---- any pass
@@ -30,9 +30,9 @@ pub record Pass (i : Input) (chunks : List (List ℕ)) : Type 0 where
 
 -- ---- the first pass
 
--- the number of the refusal: 23 where the file could not be opened or read, before all others, else the check's
-abbrev pub first_number : Input → Check → ℕ
-first_number i c = cond i.failed 23 (refusal_in c)
+-- why the file is refused: it could not be opened or read, before all others, else as the check has it
+abbrev pub first_refusal : Input → Check → Option Refusal
+first_refusal i c = cond (failed i) (Some refusal.Unreadable) (option_map refusal.Log (refusal_in c))
 
 -- the check is that of the chunks
 pub record Checks (i : Input) (c : Check) : Type 0 where
@@ -42,25 +42,13 @@ pub record Checks (i : Input) (c : Check) : Type 0 where
 
 -- ---- the second pass
 
--- the number of the refusal: 23 where the file could not be opened or read to its end
-abbrev pub second_number : Input → ℕ
-second_number i = cond i.ended 0 23
-
--- how many bytes an answer of the dump says were written
-abbrev pub bytes_in : Values → ℕ
-bytes_in refused = 0
-bytes_in short = 0
-bytes_in (written n) = n
-
--- a chunk's lines
-pub record WritesLines (w : Writer) (chunk : List ℕ) (o : Output) (r : Lines) : Type 0 where
-  pub writer : r.writer ≡ after w chunk
-  pub output : r.output ≡ wrote o (written_by w chunk)
-  pub most : length (written_by w chunk) ≤ 2080
+-- why the file is refused: it could not be opened or read to its end
+abbrev pub second_refusal : Input → Option Refusal
+second_refusal i = cond (ended i) None (Some refusal.Unreadable)
 
 -- the lines of the chunks
-pub record WritesChunks (from : Input) (to : Output) (i : Input) (o : Output) : Type 0 where
-  pub fd : i.fd ≡ from.fd
+pub record WritesChunks (to : Output) (i : Input) (o : Output) : Type 0 where
+  pub opened : is_open i ≡ true
   pub chunks : List (List ℕ)
   pub pass : Pass i chunks
   pub output : o ≡ wrote to (written_all begun chunks)

@@ -1,10 +1,11 @@
 // The first pass: the log's check.
 
 ghost use Rattle.std.specs.Prelude.{◌≡◌};
-ghost use Rattle.soak.specs.Input.{Opens};
-ghost use Rattle.soak.specs.Passes.{first_number, Checks};
+ghost use Rattle.soak.specs.Input.{opened};
+ghost use Rattle.soak.specs.Passes.{first_refusal, Checks};
 
-use crate::input::{Input, Opened};
+use crate::input::{Input, Reader};
+use crate::refusal::Refusal;
 use std::fs::File;
 use std::rt::Files;
 use verdict::Check;
@@ -17,42 +18,43 @@ pub struct Checked {
 }
 
 // Checks an open file chunk by chunk.
-fn check_chunks(from: Input, file: &mut Option<File>) -> Checked
-    requires { Opens from }
-    ensures { Checks result.input result.check }
+fn check_chunks(file: &mut Reader) -> Check
+    requires { file.old.input ≡ opened }
+    ensures { Checks file.new.input result }
 {
     let mut area = [0u8; 640];
-    let mut input = from;
     let mut check = Check::new();
-    while input.more() {
-        input = input.read(file, &mut area);
-        let n = input.count();
-        check = check.piece(&area[..n]);
+    while let Some(n) = file.read(&mut area) {
+        check.piece(&area[..n]);
     }
-    Checked { input, check }
+    check
 }
 
 // Opens a file and checks it.
 pub fn check_file<R: Files<File = File>>(rt: &R, path: &[u8]) -> Checked
     ensures { Checks result.input result.check }
 {
-    let Opened { input, mut file } = Input::open(rt, path);
-    let checked = check_chunks(input, &mut file);
-    let input = checked.input;
-    input.close(file);
-    checked
+    let Some(mut file) = Reader::open(rt, path) else {
+        return Checked {
+            input: Input::missing(),
+            check: Check::new(),
+        };
+    };
+    let check = check_chunks(&mut file);
+    Checked {
+        input: file.close(),
+        check,
+    }
 }
 
 impl Checked {
-    // The number of the refusal, 0 where there is none.
-    pub fn number(self) -> u8
-        ensures { result ≡ first_number self.input self.check }
+    // Why the file is refused; that it cannot be read comes before all else.
+    pub fn refusal(&self) -> Option<Refusal>
+        ensures { result ≡ first_refusal self.now.input self.now.check }
     {
-        let input = self.input;
-        let check = self.check;
-        if input.failed() {
-            return 23;
+        if self.input.failed() {
+            return Some(Refusal::Unreadable);
         }
-        check.refusal()
+        self.check.refusal().map(Refusal::Log)
     }
 }

@@ -1,123 +1,137 @@
 // A file that is read chunk by chunk.
 
-ghost use Rattle.std.specs.Prelude.{◌+◌, ◌<◌, ◌^◌, ◌≡◌, length};
-ghost use Rattle.soak.specs.Input.{opened_as, Opens, more, after_read, Reads};
+ghost use Rattle.std.specs.Prelude.{◌+◌, ◌<◌, ◌^◌, ◌≡◌, length, IfSome, unwrap_or};
+ghost use Rattle.soak.specs.Input.{missing, opened, more, failed, after_read, Reads};
+ghost use Rattle.soak.specs.Passes.{second_refusal};
 
+use crate::refusal::Refusal;
 use std::fs::File;
 use std::io::Read;
-use std::os::fd::AsRawFd;
 use std::rt::Files;
 
 // The longest log that is taken, in bytes.
 const LONGEST: u64 = 0x4000_0000;
 
-// A file descriptor, negative where there is none, whether the file could not be opened or read, whether it is at its end, the bytes of the last chunk, and all that were read.
+// How a file stands.
+#[derive(Clone, Copy, PartialEq, Eq)]
+pub enum State {
+    // It could not be opened.
+    Missing,
+    // There may be more to read.
+    Open,
+    // It was read to its end.
+    Ended,
+    // It could not be read.
+    Failed,
+}
+
+// How a file stands, and how many of its bytes were read.
 #[derive(Clone, Copy)]
 pub struct Input {
-    fd: i32,
-    failed: bool,
-    ended: bool,
-    count: usize,
+    state: State,
     bytes: u64,
 }
 
-// An input and its file, none where that could not be opened.
+// An open file, and how far it was read.
 #[derive(Drop)]
-pub struct Opened {
-    pub input: Input,
-    pub file: Option<File>,
+pub struct Reader {
+    file: File,
+    input: Input,
 }
 
 impl Input {
-    // The input of a descriptor that was opened, negative where that failed.
-    fn of(fd: i32) -> Input
-        ensures { result ≡ opened_as fd }
+    // A file that could not be opened.
+    pub fn missing() -> Input
+        ensures { result ≡ missing }
     {
         Input {
-            fd,
-            failed: fd < 0,
-            ended: false,
-            count: 0,
+            state: State::Missing,
             bytes: 0,
         }
     }
 
-    // Opens a file; a path that is no UTF-8 is one that cannot be opened.
-    pub fn open<R: Files<File = File>>(rt: &R, path: &[u8]) -> Opened
-        ensures { Opens result.input }
-    {
-        if let Ok(text) = std::str::from_utf8(path)
-            && let Ok(file) = File::open(rt, text)
-        {
-            let input = Input::of(file.as_raw_fd());
-            return Opened {
-                input,
-                file: Some(file),
-            };
-        }
-        let input = Input::of(-1);
-        Opened { input, file: None }
-    }
-
-    // The input after a read, whose answer is negative where that failed.
-    fn after(self, got: isize, count: usize) -> Input
-        requires { self.bytes + count < 2 ^ 64 }
-        ensures { result ≡ after_read self got count }
-    {
-        let failed = got < 0;
-        Input {
-            fd: self.fd,
-            failed,
-            ended: !failed & (count == 0),
-            count,
-            bytes: self.bytes + count as u64,
-        }
-    }
-
-    // Reads the next chunk into an area.
-    pub fn read(self, file: &mut Option<File>, area: &mut [u8]) -> Input
-        requires { self.bytes + length area.old < 2 ^ 64 }
-        ensures { Reads self area.new result }
-    {
-        match file {
-            Some(file) => match file.read(area) {
-                Ok(count) => self.after(0, count),
-                Err(_) => self.after(-1, 0),
-            },
-            None => self.after(-1, 0),
-        }
-    }
-
     // Whether there may be more to read: not after a failure, at the file's end, or past the longest log.
-    pub fn more(self) -> bool
+    fn more(self) -> bool
         ensures { result ≡ more self }
     {
-        !self.failed & !self.ended & (self.bytes <= LONGEST)
+        self.state == State::Open && self.bytes <= LONGEST
     }
 
-    // How many bytes the last chunk has.
-    pub fn count(self) -> usize
-        ensures { result ≡ self.count }
+    // The input after a read that put so many bytes into its area, none at the file's end, or that failed.
+    fn after(self, answer: Option<usize>) -> Input
+        requires { self.bytes + unwrap_or answer 0 < 2 ^ 64 }
+        ensures { result ≡ after_read self answer }
     {
-        self.count
+        match answer {
+            Some(0) => Input {
+                state: State::Ended,
+                ..self
+            },
+            Some(count) => Input {
+                bytes: self.bytes + count as u64,
+                ..self
+            },
+            None => Input {
+                state: State::Failed,
+                ..self
+            },
+        }
     }
 
     // Whether the file could not be opened or read.
     pub fn failed(self) -> bool
-        ensures { result ≡ self.failed }
+        ensures { result ≡ failed self }
     {
-        self.failed
+        self.state == State::Missing || self.state == State::Failed
     }
 
-    // Whether the file was read to its end.
-    pub fn ended(self) -> bool
-        ensures { result ≡ self.ended }
+    // Why a file is refused that has to be read to its end.
+    pub fn cut_short(self) -> Option<Refusal>
+        ensures { result ≡ second_refusal self }
     {
-        self.ended
+        if self.state == State::Ended {
+            None
+        } else {
+            Some(Refusal::Unreadable)
+        }
+    }
+}
+
+impl Reader {
+    // Opens a file; a path that is no UTF-8 is one that cannot be opened.
+    pub fn open<R: Files<File = File>>(rt: &R, path: &[u8]) -> Option<Reader>
+        ensures { IfSome result (λ r. r.input ≡ opened) }
+    {
+        let text = std::str::from_utf8(path).ok()?;
+        let file = File::open(rt, text).ok()?;
+        Some(Reader {
+            file,
+            input: Input {
+                state: State::Open,
+                bytes: 0,
+            },
+        })
+    }
+
+    // Reads the next chunk into an area; yields how many bytes it has, unless there is no more to read.
+    pub fn read(&mut self, area: &mut [u8]) -> Option<usize>
+        requires { self.old.input.bytes + length area.old < 2 ^ 64 }
+        ensures { Reads self.old.input area.new result self.new.input }
+    {
+        if !self.input.more() {
+            return None;
+        }
+        let answer = self.file.read(area).ok();
+        self.input = self.input.after(answer);
+        answer.filter(|count| *count != 0)
     }
 
     // Closes the file.
-    pub fn close(self, file: Option<File>) {
+    pub fn close(self) -> Input
+        ensures { result ≡ self.input }
+    {
+        let Reader { file, input } = self;
         drop(file);
+        input
     }
 }

@@ -17,23 +17,37 @@ pub struct Output {
     bytes: u64,
 }
 
-impl Output {
+// What is written to, and what it got.
+#[derive(Drop)]
+pub struct Sink<W> {
+    to: W,
+    output: Output,
+}
+
+impl<W: Write> Sink<W> {
     // A descriptor to which nothing was written.
-    pub fn new(fd: i32) -> Output
-        ensures { result ≡ output_of fd }
+    pub fn new(fd: i32, to: W) -> Sink<W>
+        ensures { result.output ≡ output_of fd }
     {
-        Output { fd, bytes: 0 }
+        Sink {
+            to,
+            output: Output { fd, bytes: 0 },
+        }
     }
 
     // Writes bytes; a write that fails is passed over.
-    pub fn write<W: Write>(self, to: &mut W, bytes: &[u8]) -> Output
-        requires { self.bytes + length bytes.now < 2 ^ 64 }
-        ensures { result ≡ wrote self bytes.now }
+    pub fn write(&mut self, bytes: &[u8])
+        requires { self.old.output.bytes + length bytes.now < 2 ^ 64 }
+        ensures { self.new.output ≡ wrote self.old.output bytes.now }
     {
-        let _ = to.write_all(bytes);
-        Output {
-            fd: self.fd,
-            bytes: self.bytes + bytes.len() as u64,
-        }
+        let _ = self.to.write_all(bytes);
+        self.output.bytes += bytes.len() as u64;
+    }
+
+    // What was written.
+    pub fn output(&self) -> Output
+        ensures { result ≡ self.now.output }
+    {
+        self.output
     }
 }

@@ -1,60 +1,78 @@
--- What a call's line asks for (docs/SCRIPT.md, "Calls"): its words from left to right, by the name's place among the commands.
-use Rattle.std.specs.Prelude.{ℕ, ◌+◌, ◌%◌, ◌^◌, ◌-◌, cond, List, eqb, ltb}
-use Rattle.words.specs.Words.{exactly_of}
-use Rattle.words.specs.Numbers.{next_of, nothing_of}
-use Rattle.words.specs.declared.Cursor.{Cursor}
+-- What a call's line asks for (docs/SCRIPT.md, "Calls"): its words from left to right, as its name asks for them.
+use Rattle.std.specs.Prelude.{ℕ, ◌+◌, ◌%◌, ◌^◌, ◌-◌, cond, List, Option, Some, None, is_some, Result, Ok}
+use Rattle.words.specs.Words.{exactly_of, and_then}
+use Rattle.words.specs.Numbers.{next_of}
 use Rattle.words.specs.declared.Taken.{Taken}
+use Rattle.words.specs.declared.Unreadable.{Unreadable}
 use Rattle.timer.specs.declared.calls.Call.{Call}
 use Rattle.timer.specs.declared.calls.Call.TheVariants as call
 use Rattle.timer_lines.specs.declared.asked.Asked.{Asked}
+use Rattle.timer_lines.specs.declared.asked.Name.{Name}
+use Rattle.timer_lines.specs.declared.asked.Name.TheVariants as name
+use Rattle.timer_lines.specs.declared.asked.Kind.{Kind}
+use Rattle.timer_lines.specs.declared.asked.Kind.TheVariants as kind
 
--- how many words stand before the cycle: none of advance, next, reset, wake, tifr and timsk, two of write and edge, else one
-unfoldable pub arguments_of : ℕ → ℕ
-arguments_of name = cond (ltb name 6) 0 (cond (ltb name 16) 1 2)
+-- the words that follow a name, before the cycle and the size: the address of read and peek and the mask of prr to 16 bits, the value of wtifr and wtimsk and the mask of presc to 8;
+-- a level, a mode or a pin, decimal; a write's address and value; an edge's pin and level
+unfoldable pub kinds_of : Name → Option Kind × Option Kind
+kinds_of name.Advance = (None, None)
+kinds_of name.Next = (None, None)
+kinds_of name.Reset = (None, None)
+kinds_of name.Wake = (None, None)
+kinds_of name.Tifr = (None, None)
+kinds_of name.Timsk = (None, None)
+kinds_of name.Read = (Some kind.Sixteen, None)
+kinds_of name.Peek = (Some kind.Sixteen, None)
+kinds_of name.Prr = (Some kind.Sixteen, None)
+kinds_of name.Wtifr = (Some kind.Hexadecimal, None)
+kinds_of name.Wtimsk = (Some kind.Hexadecimal, None)
+kinds_of name.Presc = (Some kind.Hexadecimal, None)
+kinds_of name.Route = (Some kind.Decimal, None)
+kinds_of name.Acout = (Some kind.Decimal, None)
+kinds_of name.Sleep = (Some kind.Decimal, None)
+kinds_of name.Tsm = (Some kind.Decimal, None)
+kinds_of name.Write = (Some kind.Sixteen, Some kind.Hexadecimal)
+kinds_of name.Edge = (Some kind.Decimal, Some kind.Decimal)
 
--- the first: the address of read and peek and the mask of prr, hexadecimal to 16 bits; the value of wtifr and wtimsk and the mask of presc to 8; a write's address; else a
--- level, a mode or a pin, decimal
-unfoldable pub first_of : List ℕ → Cursor → ℕ → Taken
-first_of line c name =
-    cond (ltb name 6) (nothing_of c)
-    (cond (ltb name 9) (next_of line c 16 65535)
-    (cond (ltb name 12) (next_of line c 16 255)
-    (cond (eqb name 16) (next_of line c 16 65535) (next_of line c 10 255))))
+-- the next word, of a kind; where there is none it is a 0 that takes no word
+unfoldable pub word_of : List ℕ → ℕ → Option Kind → Result Taken Unreadable
+word_of line at (Some kind.Decimal) = next_of line at 10 255
+word_of line at (Some kind.Hexadecimal) = next_of line at 16 255
+word_of line at (Some kind.Sixteen) = next_of line at 16 65535
+word_of line at None = Ok (record { value = 0; end = at })
 
--- the second: a write's value, hexadecimal, or an edge's level, decimal
-unfoldable pub second_of : List ℕ → Cursor → ℕ → Taken
-second_of line c name = cond (eqb name 16) (next_of line c 16 255) (cond (eqb name 17) (next_of line c 10 255) (nothing_of c))
+-- the call of each name with its words
+unfoldable pub call_of : Name → ℕ → ℕ → Call
+call_of name.Advance a b = call.Advance
+call_of name.Next a b = call.Next
+call_of name.Reset a b = call.Reset
+call_of name.Wake a b = call.Wake
+call_of name.Tifr a b = call.Tifr
+call_of name.Timsk a b = call.Timsk
+call_of name.Read a b = call.Read (a % 65536)
+call_of name.Peek a b = call.Peek (a % 65536)
+call_of name.Prr a b = call.Reduce (a % 65536)
+call_of name.Wtifr a b = call.WriteTifr (a % 256)
+call_of name.Wtimsk a b = call.WriteTimsk (a % 256)
+call_of name.Presc a b = call.Prescale (a % 256)
+call_of name.Route a b = call.Route (a % 256)
+call_of name.Acout a b = call.Output (a % 256)
+call_of name.Sleep a b = call.Sleep (a % 256)
+call_of name.Tsm a b = call.Tsm (a % 256)
+call_of name.Write a b = call.Write (a % 65536) (b % 256)
+call_of name.Edge a b = call.Edge (a % 256) (b % 256)
 
--- the call of each name, in the order of the commands, with its words
-unfoldable pub call_of : ℕ → ℕ → ℕ → Call
-call_of name a b =
-    cond (eqb name 0) call.Advance
-    (cond (eqb name 1) call.Next
-    (cond (eqb name 2) call.Reset
-    (cond (eqb name 3) call.Wake
-    (cond (eqb name 4) call.Tifr
-    (cond (eqb name 5) call.Timsk
-    (cond (eqb name 6) (call.Read (a % 65536))
-    (cond (eqb name 7) (call.Peek (a % 65536))
-    (cond (eqb name 8) (call.Reduce (a % 65536))
-    (cond (eqb name 9) (call.WriteTifr (a % 256))
-    (cond (eqb name 10) (call.WriteTimsk (a % 256))
-    (cond (eqb name 11) (call.Prescale (a % 256))
-    (cond (eqb name 12) (call.Route (a % 256))
-    (cond (eqb name 13) (call.Output (a % 256))
-    (cond (eqb name 14) (call.Sleep (a % 256))
-    (cond (eqb name 15) (call.Tsm (a % 256))
-    (cond (eqb name 16) (call.Write (a % 65536) (b % 256)) (call.Edge (a % 256) (b % 256))))))))))))))))))
+-- one where there is a word
+abbrev pub words_in : Option Kind → ℕ
+words_in kind = cond (is_some kind) 1 0
 
--- "Each ends with its cycle and the area's size in bytes": 64 bits for cycles, sizes to 4,096
-abbrev pub ended_of : List ℕ → ℕ → Taken → Taken → Taken → Asked
-ended_of line name a b cycle =
-    let size = next_of line cycle.next 10 4096 in
-    record { call = call_of name a.value b.value; cycle = cycle.value; size = size.value; why = size.next.why }
-
--- the words from a place on, counted first
-unfoldable pub asked_of : List ℕ → ℕ → ℕ → Asked
+-- the words from a place on, counted first. "Each ends with its cycle and the area's size in bytes": 64 bits for cycles, sizes to 4,096
+unfoldable pub asked_of : List ℕ → ℕ → Name → Result Asked Unreadable
 asked_of line at name =
-    let a = first_of line (exactly_of line at (arguments_of name + 2)) name in
-    let b = second_of line a.next name in
-    ended_of line name a b (next_of line b.next 10 (2 ^ 64 - 1))
+    let kinds = kinds_of name in
+    and_then (exactly_of line at (words_in kinds.0 + words_in kinds.1 + 2)) (λ _.
+    and_then (word_of line at kinds.0) (λ a.
+    and_then (word_of line a.end kinds.1) (λ b.
+    and_then (next_of line b.end 10 (2 ^ 64 - 1)) (λ cycle.
+    and_then (next_of line cycle.end 10 4096) (λ size.
+    Ok (record { call = call_of name a.value b.value; cycle = cycle.value; size = size.value }))))))

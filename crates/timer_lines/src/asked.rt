@@ -1,97 +1,124 @@
 // A call as a line asks for it.
 
-ghost use Rattle.std.specs.Prelude.{◌≤◌, ◌≡◌};
-ghost use Rattle.timer_lines.specs.Asked.{arguments_of, first_of, second_of, call_of, asked_of};
+ghost use Rattle.std.specs.Prelude.{◌≤◌, ◌≡◌, IfOk};
+ghost use Rattle.timer_lines.specs.Asked.{kinds_of, word_of, call_of, asked_of};
 
 use timer::calls::Call;
-use words::{Cursor, Taken, decimal, exactly, hexadecimal, low8, low16, none};
+use words::{Taken, Unreadable, decimal, exactly, hexadecimal, low8, low16};
 
-// The call with its cycle, the area's size, and why the line cannot be read.
+// The calls by their names.
+#[derive(Clone, Copy)]
+pub enum Name {
+    Advance,
+    Next,
+    Reset,
+    Wake,
+    Tifr,
+    Timsk,
+    Read,
+    Peek,
+    Prr,
+    Wtifr,
+    Wtimsk,
+    Presc,
+    Route,
+    Acout,
+    Sleep,
+    Tsm,
+    Write,
+    Edge,
+}
+
+// What a word of a call is: a decimal or a hexadecimal byte, or sixteen bits, which are an address or PRR1:PRR0.
+#[derive(Clone, Copy)]
+enum Kind {
+    Decimal,
+    Hexadecimal,
+    Sixteen,
+}
+
+// A call with its cycle and the area's size.
 #[derive(Clone, Copy)]
 pub struct Asked {
     pub call: Call,
     pub cycle: u64,
     pub size: usize,
-    pub why: u8,
 }
 
-// How many words a call has before its cycle.
-fn arguments(name: usize) -> usize
-    ensures { (result ≤ 2) × (result ≡ arguments_of name) }
+// The words that a call has before its cycle and its size.
+#[tactic(auto, unfolding(crate::specs::Asked::kinds_of))]
+fn kinds(name: Name) -> (Option<Kind>, Option<Kind>)
+    ensures { result ≡ kinds_of name }
 {
     match name {
-        0..=5 => 0,
-        6..=15 => 1,
-        _ => 2,
+        Name::Advance | Name::Next | Name::Reset | Name::Wake | Name::Tifr | Name::Timsk => {
+            (None, None)
+        }
+        Name::Read | Name::Peek | Name::Prr => (Some(Kind::Sixteen), None),
+        Name::Wtifr | Name::Wtimsk | Name::Presc => (Some(Kind::Hexadecimal), None),
+        Name::Route | Name::Acout | Name::Sleep | Name::Tsm => (Some(Kind::Decimal), None),
+        Name::Write => (Some(Kind::Sixteen), Some(Kind::Hexadecimal)),
+        Name::Edge => (Some(Kind::Decimal), Some(Kind::Decimal)),
     }
 }
 
-// The first word of a call.
-fn first(line: &[u8], c: Cursor, name: usize) -> Taken
-    ensures { result ≡ first_of line.now c name }
+// The next word, of a kind; where there is none it is a 0 that takes no word.
+#[tactic(auto, unfolding(crate::specs::Asked::word_of))]
+fn word(line: &[u8], at: usize, kind: Option<Kind>) -> Result<Taken, Unreadable>
+    ensures { result ≡ word_of line.now at kind }
 {
-    match name {
-        0..=5 => none(c),
-        6..=8 => hexadecimal(line, c, 0xffff),
-        9..=11 => hexadecimal(line, c, 0xff),
-        16 => hexadecimal(line, c, 0xffff),
-        _ => decimal(line, c, 0xff),
+    match kind {
+        Some(Kind::Decimal) => decimal(line, at, 0xff),
+        Some(Kind::Hexadecimal) => hexadecimal(line, at, 0xff),
+        Some(Kind::Sixteen) => hexadecimal(line, at, 0xffff),
+        None => Ok(Taken { value: 0, end: at }),
     }
 }
 
-// The second word of a call.
-fn second(line: &[u8], c: Cursor, name: usize) -> Taken
-    ensures { result ≡ second_of line.now c name }
-{
-    match name {
-        16 => hexadecimal(line, c, 0xff),
-        17 => decimal(line, c, 0xff),
-        _ => none(c),
-    }
-}
-
-// The call of a name, by its place among the commands, with its words.
-fn call_of(name: usize, a: u64, b: u64) -> Call
+// The call of a name, with its words.
+#[tactic(auto, unfolding(crate::specs::Asked::call_of))]
+fn call_of(name: Name, a: u64, b: u64) -> Call
     ensures { result ≡ call_of name a b }
 {
     match name {
-        0 => Call::Advance,
-        1 => Call::Next,
-        2 => Call::Reset,
-        3 => Call::Wake,
-        4 => Call::Tifr,
-        5 => Call::Timsk,
-        6 => Call::Read(low16(a)),
-        7 => Call::Peek(low16(a)),
-        8 => Call::Reduce(low16(a)),
-        9 => Call::WriteTifr(low8(a)),
-        10 => Call::WriteTimsk(low8(a)),
-        11 => Call::Prescale(low8(a)),
-        12 => Call::Route(low8(a)),
-        13 => Call::Output(low8(a)),
-        14 => Call::Sleep(low8(a)),
-        15 => Call::Tsm(low8(a)),
-        16 => Call::Write(low16(a), low8(b)),
-        _ => Call::Edge(low8(a), low8(b)),
+        Name::Advance => Call::Advance,
+        Name::Next => Call::Next,
+        Name::Reset => Call::Reset,
+        Name::Wake => Call::Wake,
+        Name::Tifr => Call::Tifr,
+        Name::Timsk => Call::Timsk,
+        Name::Read => Call::Read(low16(a)),
+        Name::Peek => Call::Peek(low16(a)),
+        Name::Prr => Call::Reduce(low16(a)),
+        Name::Wtifr => Call::WriteTifr(low8(a)),
+        Name::Wtimsk => Call::WriteTimsk(low8(a)),
+        Name::Presc => Call::Prescale(low8(a)),
+        Name::Route => Call::Route(low8(a)),
+        Name::Acout => Call::Output(low8(a)),
+        Name::Sleep => Call::Sleep(low8(a)),
+        Name::Tsm => Call::Tsm(low8(a)),
+        Name::Write => Call::Write(low16(a), low8(b)),
+        Name::Edge => Call::Edge(low8(a), low8(b)),
     }
 }
 
 impl Asked {
-    // What follows the name of a call.
-    pub fn of(line: &[u8], at: usize, name: usize) -> Asked
-        ensures { (result.size ≤ 4096) × (result ≡ asked_of line.now at name) }
+    // What follows the name of a call; the words are counted first.
+    #[tactic(auto, unfolding(crate::specs::Asked::asked_of, words::specs::Words::and_then))]
+    pub fn of(line: &[u8], at: usize, name: Name) -> Result<Asked, Unreadable>
+        ensures { IfOk result (λ q. q.size ≤ 4096) × (result ≡ asked_of line.now at name) }
     {
-        let start = exactly(line, at, arguments(name) + 2);
-        let a = first(line, start, name);
-        let b = second(line, a.next, name);
-        let cycle = decimal(line, b.next, u64::MAX);
-        let size = decimal(line, cycle.next, 4096);
-        let end = size.next;
-        Asked {
+        let (first, second) = kinds(name);
+        let before = first.is_some() as usize + second.is_some() as usize;
+        exactly(line, at, before + 2)?;
+        let a = word(line, at, first)?;
+        let b = word(line, a.end, second)?;
+        let cycle = decimal(line, b.end, u64::MAX)?;
+        let size = decimal(line, cycle.end, 4096)?;
+        Ok(Asked {
             call: call_of(name, a.value, b.value),
             cycle: cycle.value,
             size: size.value as usize,
-            why: end.why,
-        }
+        })
     }
 }

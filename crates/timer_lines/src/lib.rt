@@ -8,4 +8,3 @@ pub mod made;
 pub mod named;
 pub mod shifted;
 pub mod shown;
-pub mod socket;

@@ -1,56 +1,90 @@
 // The timer's lines by their first word.
 
-ghost use Rattle.std.specs.Prelude.{◌≤◌, ◌≡◌, length};
+ghost use Rattle.std.specs.Prelude.{◌≤◌, ◌≡◌, length, IfSome};
 ghost use Rattle.counter.specs.Valid.{Valid};
-ghost use Rattle.words.specs.Words.{place_of};
 ghost use Rattle.timer_lines.specs.Called.{Leaves};
-ghost use Rattle.timer_lines.specs.Named.{names, timer_line};
+ghost use Rattle.timer_lines.specs.Named.{call_named, named_of, timer_line};
 
-use crate::called::call_line;
+use crate::asked::Name;
+use crate::called::{Left, call_line};
 use crate::shifted::shift_line;
 use crate::shown::state_line;
-use crate::socket::{Left, Socket};
+use counter::state::Timer;
 use page::Page;
-use words::place;
 
-// How many names the timer's lines have: a place there and beyond is another line's.
-pub const NAMES: usize = 21;
+// What a line does with the timer: it calls it, or shows something of it.
+#[derive(Clone, Copy)]
+pub enum Command {
+    Call(Name),
+    State,
+    Distance,
+    Shift,
+}
 
-// The place of a line's first word among the timer's names: the calls by their words, then what shows the timer.
-pub fn named(word: &[u8]) -> usize
-    ensures { result ≡ place_of names word.now }
+// The call of a line's first word.
+#[tactic(auto, unfolding(crate::specs::Named::call_named, figures::specs::Figures::codes))]
+fn call_named(word: &[u8]) -> Option<Name>
+    ensures { result ≡ call_named word.now }
 {
-    place(
-        b"advance next reset wake tifr timsk read peek prr wtifr wtimsk presc route acout sleep tsm write edge state distance shift",
-        word,
-    )
+    let name = match word {
+        b"advance" => Name::Advance,
+        b"next" => Name::Next,
+        b"reset" => Name::Reset,
+        b"wake" => Name::Wake,
+        b"tifr" => Name::Tifr,
+        b"timsk" => Name::Timsk,
+        b"read" => Name::Read,
+        b"peek" => Name::Peek,
+        b"prr" => Name::Prr,
+        b"wtifr" => Name::Wtifr,
+        b"wtimsk" => Name::Wtimsk,
+        b"presc" => Name::Presc,
+        b"route" => Name::Route,
+        b"acout" => Name::Acout,
+        b"sleep" => Name::Sleep,
+        b"tsm" => Name::Tsm,
+        b"write" => Name::Write,
+        b"edge" => Name::Edge,
+        _ => return None,
+    };
+    Some(name)
+}
+
+// The command of a line's first word.
+#[tactic(auto, unfolding(crate::specs::Named::named_of, figures::specs::Figures::codes))]
+pub fn named(word: &[u8]) -> Option<Command>
+    ensures { result ≡ named_of word.now }
+{
+    match word {
+        b"state" => Some(Command::State),
+        b"distance" => Some(Command::Distance),
+        b"shift" => Some(Command::Shift),
+        _ => call_named(word).map(Command::Call),
+    }
 }
 
 // Answers a timer's line from the place after its name.
+#[tactic(auto, unfolding(crate::specs::Named::timer_line))]
 pub fn timer_line(
-    s: Socket,
+    t: Option<Timer>,
     page: &mut Page,
-    from: usize,
     nth: u64,
     line: &[u8],
     at: usize,
-    name: usize,
+    command: Command,
     area: &mut [u8],
 ) -> Left
-    requires { (Valid s.timer) × (4096 ≤ length area.old) }
-    ensures { Leaves (timer_line s nth line.now at name area.old) page.old from page.new area.new result }
+    requires { (IfSome t Valid) × (4096 ≤ length area.old) }
+    ensures { Leaves (timer_line t nth line.now at command area.old) page.old page.new area.new result }
 {
-    if name < 18 {
-        return call_line(s, page, from, nth, line, at, name, area);
+    match command {
+        Command::Call(name) => return call_line(t, page, nth, line, at, name, area),
+        Command::State => state_line(t, page, nth, line, at, false),
+        Command::Distance => state_line(t, page, nth, line, at, true),
+        Command::Shift => shift_line(t, page, nth, line, at),
     }
-    let at = if name == 20 {
-        shift_line(s, page, from, nth, line, at)
-    } else {
-        state_line(s, page, from, nth, line, at, name == 19)
-    };
     Left {
-        socket: s,
-        at,
+        timer: t,
         written: 0,
     }
 }

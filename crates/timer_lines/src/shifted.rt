@@ -1,62 +1,54 @@
 // Lines that ask how far a late edge moves the capture.
 
-ghost use Rattle.std.specs.Prelude.{◌≡◌, nat_abs};
+ghost use Rattle.std.specs.Prelude.{◌≡◌, IfSome};
 ghost use Rattle.counter.specs.Valid.{Valid};
 ghost use Rattle.page.specs.Page.{Puts};
-ghost use Rattle.timer_lines.specs.Shown.{moved_of, shift_line};
+ghost use Rattle.timer_lines.specs.Shown.{moved_of, edges_of, shift_line};
 
-use crate::socket::Socket;
-use page::{Page, number, text, unreadable};
+use counter::state::Timer;
+use page::Page;
 use shift::{Moved, shift};
 use time::units::Cycle;
-use words::{FINE, decimal, exactly};
-
-// How far a number lies from 0.
-fn size(by: i32) -> u64
-    ensures { result ≡ nat_abs by }
-{
-    let n = by as i64;
-    if n < 0 { (-n) as u64 } else { n as u64 }
-}
+use words::{Unreadable, decimal, exactly};
 
 // Puts a shift, with its sign, or its refusal.
-fn put(page: &mut Page, from: usize, moved: Moved) -> usize
-    ensures { Puts page.old from page.new result (moved_of moved) }
+#[tactic(auto, unfolding(crate::specs::Shown::moved_of, figures::specs::Figures::codes))]
+fn put(page: &mut Page, moved: Moved)
+    ensures { Puts page.old page.new (moved_of moved) }
 {
     match moved {
-        Moved::Refused(n) => number(page, from, b"refused ", n as u64),
+        Moved::Refused(n) => page.number(b"refused ", n as u64),
         Moved::By(by) => {
+            let size = by.unsigned_abs() as u64;
             if by < 0 {
-                number(page, from, b"ok shift=-", size(by))
+                page.number(b"ok shift=-", size)
             } else {
-                number(page, from, b"ok shift=", size(by))
+                page.number(b"ok shift=", size)
             }
         }
     }
 }
 
-// Answers a shift line from the place after its name.
-pub fn shift_line(
-    s: Socket,
-    page: &mut Page,
-    from: usize,
-    nth: u64,
-    line: &[u8],
-    at: usize,
-) -> usize
-    requires { Valid s.timer }
-    ensures { Puts page.old from page.new result (shift_line s nth line.now at) }
+// The cycles of the two edges that a line asks for.
+#[tactic(auto, unfolding(crate::specs::Shown::edges_of, words::specs::Words::and_then))]
+fn edges(line: &[u8], at: usize) -> Result<(Cycle, Cycle), Unreadable>
+    ensures { result ≡ edges_of line.now at }
 {
-    let start = exactly(line, at, 2);
-    let first = decimal(line, start, u64::MAX);
-    let second = decimal(line, first.next, u64::MAX);
-    let end = second.next;
-    if end.why != FINE {
-        return unreadable(page, from, nth, end.why);
+    exactly(line, at, 2)?;
+    let first = decimal(line, at, u64::MAX)?;
+    let second = decimal(line, first.end, u64::MAX)?;
+    Ok((Cycle(first.value), Cycle(second.value)))
+}
+
+// Answers a shift line from the place after its name.
+#[tactic(auto, using(crate::proofs::Telling::shift_is), unfolding(crate::specs::Shown::unless_none, figures::specs::Figures::codes))]
+pub fn shift_line(t: Option<Timer>, page: &mut Page, nth: u64, line: &[u8], at: usize)
+    requires { IfSome t Valid }
+    ensures { Puts page.old page.new (shift_line t nth line.now at) }
+{
+    match (edges(line, at), t) {
+        (Err(why), _) => page.unreadable(nth, why),
+        (Ok(_), None) => page.text(b"no timer"),
+        (Ok((first, second)), Some(timer)) => put(page, shift(timer, first, second)),
     }
-    if s.ready {
-        let moved = shift(s.timer, Cycle(first.value), Cycle(second.value));
-        return put(page, from, moved);
-    }
-    text(page, from, b"no timer")
 }

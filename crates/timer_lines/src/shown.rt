@@ -1,36 +1,30 @@
 // Lines that show the timer as it stands.
 
+ghost use Rattle.std.specs.Prelude.{IfSome};
 ghost use Rattle.counter.specs.Valid.{Valid};
 ghost use Rattle.page.specs.Page.{Puts};
 ghost use Rattle.timer_lines.specs.Shown.{state_line};
 
-use crate::socket::Socket;
+use counter::state::Timer;
 use display::state::{distance, state};
-use page::{Page, text, unreadable};
-use words::{FINE, exactly};
+use page::Page;
+use words::exactly;
 
 // Answers a state line, or a distance line, from the place after its name.
-pub fn state_line(
-    s: Socket,
-    page: &mut Page,
-    from: usize,
-    nth: u64,
-    line: &[u8],
-    at: usize,
-    far: bool,
-) -> usize
-    requires { Valid s.timer }
-    ensures { Puts page.old from page.new result (state_line s nth line.now at far) }
+#[tactic(auto, unfolding(crate::specs::Shown::unless_none, figures::specs::Figures::codes))]
+pub fn state_line(t: Option<Timer>, page: &mut Page, nth: u64, line: &[u8], at: usize, far: bool)
+    requires { IfSome t Valid }
+    ensures { Puts page.old page.new (state_line t nth line.now at far) }
 {
-    let end = exactly(line, at, 0);
-    if end.why != FINE {
-        return unreadable(page, from, nth, end.why);
-    }
-    if s.ready {
-        if far {
-            return distance(page, from, s.timer);
+    match (exactly(line, at, 0), t) {
+        (Err(why), _) => page.unreadable(nth, why),
+        (Ok(()), None) => page.text(b"no timer"),
+        (Ok(()), Some(timer)) => {
+            if far {
+                distance(page, timer)
+            } else {
+                state(page, timer)
+            }
         }
-        return state(page, from, s.timer);
     }
-    text(page, from, b"no timer")
 }

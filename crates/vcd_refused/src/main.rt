@@ -10,6 +10,24 @@ use std::{fs, io};
 // One record longer than the longest log: 2^30 is no multiple of ten.
 const TOO_LONG: u64 = 1073741830;
 
+const PATHS: [&str; 15] = [
+    "missing.log",
+    ".",
+    "odd.log",
+    "late_then_odd.log",
+    "too_long.log",
+    "kind_3.log",
+    "filler_of_a_pin.log",
+    "filler_of_a_flag.log",
+    "filler_of_a_trigger.log",
+    "filler_and_late.log",
+    "late.log",
+    "late_in_the_second_piece.log",
+    "far.log",
+    "far_then_late.log",
+    "empty.log",
+];
+
 fn line(rt: &HostRuntime, text: &[u8]) -> io::Result<()> {
     rt.write_all(text)?;
     rt.write_all(b"\n")
@@ -38,19 +56,8 @@ fn zeros(rt: &HostRuntime, path: &str, bytes: u64) -> io::Result<()> {
 
 fn main(rt: HostRuntime) -> io::Result<()> {
     zeros(&rt, "too_long.log", TOO_LONG)?;
-    run(&rt, b"missing.log")?;
-    run(&rt, b".")?;
-    run(&rt, b"odd.log")?;
-    run(&rt, b"late_then_odd.log")?;
-    run(&rt, b"too_long.log")?;
-    run(&rt, b"kind_3.log")?;
-    run(&rt, b"filler_of_a_pin.log")?;
-    run(&rt, b"filler_of_a_flag.log")?;
-    run(&rt, b"filler_of_a_trigger.log")?;
-    run(&rt, b"filler_and_late.log")?;
-    run(&rt, b"late.log")?;
-    run(&rt, b"late_in_the_second_piece.log")?;
-    run(&rt, b"far.log")?;
-    run(&rt, b"far_then_late.log")?;
-    run(&rt, b"empty.log")
+    for path in PATHS {
+        run(&rt, path.as_bytes())?;
+    }
+    Ok(())
 }

@@ -1,14 +1,13 @@
 -- The claims of specs/Claims.antt.
-use Prim.Native.Nat.{ℕ, zero, suc, ◌+◌, ◌-◌, ◌/◌, ◌≤◌, ◌<◌, ◌^◌}
-use native.Mathlib.Decide.{dec_le}
+use Prim.Native.Nat.{ℕ, zero, suc, ◌+◌, ◌-◌, ◌/◌, ◌<◌}
 use native.Mathlib.Omega.{arith}
 use mathlib.Core.Path.{◌≡◌, refl, sym, ap, ◌∙◌}
-use mathlib.Core.Bool.{Bool, true, false, cond, not, ◌||◌}
+use mathlib.Core.Bool.{Bool, true, false, cond, ◌||◌}
 use mathlib.Core.List.{List, [], ◌∷◌, ◌++◌, append_assoc, append-nil}
-use lib.Dec.{eqb, leb, ltb}
+use lib.Dec.{eqb, leb}
 use lib.ListN.{length, get_or, set, replicate, length-set, length-replicate}
 use lib.Seq.{get_or-set_same, get_or-set_other}
-use borrow.Author.Tests.{eqb-true, eqb-false, eq-eqb, ne_eqb, le-leb, lt-leb, le-ltb, lt-ltb}
+use borrow.Author.Tests.{eqb-true, eqb-false, eq-eqb, ne_eqb}
 use Rattle.records.specs.Records.{record_at, kind_in, cycle_in, body_in}
 use Rattle.pieces.specs.declared.Whole.{Whole}
 use Rattle.pieces.specs.Pieces.{start, kind_of, cycle_of, part_after, wholes, whole_in, wholes_in, Bytes, joined}
@@ -16,8 +15,8 @@ use Rattle.pieces.proofs.Claims.{of-a-log}
 use Rattle.verdict.specs.declared.judge.Judge.{Judge}
 use Rattle.verdict.specs.declared.Check.{Check}
 use Rattle.verdict.specs.Changes.{Change, state_of, change_in, changes_in, changes_of, has, change_of, changes}
-use Rattle.verdict.specs.Refusal.{formed, before, refused_at, first_refusal, longest, refusal_of}
-use Rattle.verdict.specs.Check.{fresh, first_fault, refused_after, judged, judged_all, noted, noted_all, counted, checked, refusal_in, pins_in}
+use Rattle.verdict.specs.Refusal.{before, refused_at, first_refusal, longest, refusal_of}
+use Rattle.verdict.specs.Check.{unjudged, fresh, refused_after, judged, judged_all, noted, noted_all, counted, checked, refusal_in, pins_in}
 use Rattle.verdict.specs.Claims.{checked_all, ByPieces}
 use Rattle.verdict.proofs.Checks.{or-true, or-false, judged-append, checked-append}
 
@@ -39,19 +38,9 @@ changes-in log (suc n) = rw (changes-append (wholes_in log n) (whole_in (record_
 
 -- ---- the judgement of a log's first n records
 
-fault-is : (a b : Bool) (cycle : ℕ) → first_fault (not a) b (leb (2 ^ 48) cycle) ≡ cond a (cond b 14 (cond (ltb cycle (2 ^ 48)) 0 15)) 13
-unfolding first_fault
-fault-is false b cycle = refl
-fault-is true true cycle = refl
-fault-is true false cycle = go (dec_le (2 ^ 48) cycle)
-  where
-    go : Dec (2 ^ 48 ≤ cycle) → ◌≡◌ {A = ℕ} (cond (leb (2 ^ 48) cycle) 15 0) (cond (ltb cycle (2 ^ 48)) 0 15)
-    go (yes h) = rw (le-leb (2 ^ 48) cycle h, le-ltb cycle (2 ^ 48) h)
-    go (no h) = rw (lt-leb (2 ^ 48) cycle (omega arith), lt-ltb cycle (2 ^ 48) (omega arith))
-
 refused-is : (log : List ℕ) (n : ℕ) → refused_after (before log n) (whole_in (record_at log n)) ≡ refused_at log n
 unfolding refused_at kind_in cycle_in body_in
-refused-is log n = fault-is (formed (kind_in (record_at log n)) (body_in (record_at log n))) (ltb (cycle_in (record_at log n)) (before log n)) (cycle_in (record_at log n))
+refused-is log n = refl
 
 last-is : (log : List ℕ) (n : ℕ) → cycle_of (whole_in (record_at log n)) ≡ before log (suc n)
 unfolding before cycle_in
@@ -68,11 +57,11 @@ judged-one : (j : Judge) (w : Whole) → judged_all j (w ∷ []) ≡ judged j w
 unfolding judged_all
 judged-one j w = refl
 
-judged-in : (log : List ℕ) (n : ℕ) → judged_all (record { last = 0; found = 0 }) (wholes_in log n) ≡ record { last = before log n; found = first_refusal log n }
+judged-in : (log : List ℕ) (n : ℕ) → judged_all unjudged (wholes_in log n) ≡ record { last = before log n; found = first_refusal log n }
 unfolding judged_all wholes_in before first_refusal
 judged-in log zero = refl
 judged-in log (suc n) =
-    judged-append (record { last = 0; found = 0 }) (wholes_in log n) (whole_in (record_at log n) ∷ [])
+    judged-append unjudged (wholes_in log n) (whole_in (record_at log n) ∷ [])
     ∙ ap (λ (j : Judge). judged_all j (whole_in (record_at log n) ∷ [])) (judged-in log n)
     ∙ judged-one _ (whole_in (record_at log n))
     ∙ judged-whole log n

@@ -1,26 +1,29 @@
 -- The check by pieces (02, 2.10): what is kept of a log so far, and what it says at the end.
-use Rattle.std.specs.Prelude.{ℕ, suc, ◌+◌, ◌/◌, ◌^◌, Bool, true, false, cond, not, ◌&&◌, List, [], ◌∷◌, eqb, ltb, leb, length, replicate, set}
+use Rattle.std.specs.Prelude.{ℕ, suc, ◌+◌, ◌/◌, ◌^◌, Bool, true, false, cond, not, ◌&&◌, List, [], ◌∷◌, eqb, ltb, leb, length, replicate, set, Option, None, Some}
 use Rattle.pieces.specs.declared.Whole.{Whole}
 use Rattle.pieces.specs.Pieces.{start, between, kind_of, cycle_of, part_after, wholes}
-use Rattle.verdict.specs.Refusal.{formed, longest}
+use Rattle.verdict.specs.Refusal.{formed, first_fault, longest}
+use Rattle.std.specs.Option.{option_or}
+use Rattle.verdict.specs.declared.judge.Fault.{Fault}
+use Rattle.verdict.specs.declared.judge.Fault.TheVariants as fault
 use Rattle.verdict.specs.declared.judge.Judge.{Judge}
 use Rattle.verdict.specs.declared.Check.{Check}
 
+-- before a log's first record
+abbrev pub unjudged : Judge
+unjudged = record { last = 0; found = None }
+
 -- before a log's first piece
 abbrev pub fresh : Check
-fresh = record { part = start; seen = 0; judge = record { last = 0; found = 0 }; pins = replicate 256 false }
-
--- the first fault of a record: 13 its form, 14 a cycle below the one before it, 15 a cycle over 2^48 - 1
-unfoldable pub first_fault : Bool → Bool → Bool → ℕ
-first_fault malformed late far = cond malformed 13 (cond late 14 (cond far 15 0))
+fresh = record { part = start; seen = 0; judge = unjudged; pins = replicate 256 false }
 
 -- a whole record by itself after a cycle, as `refused_at` has it of a record at its place
-abbrev pub refused_after : ℕ → Whole → ℕ
+abbrev pub refused_after : ℕ → Whole → Option Fault
 refused_after last w = first_fault (not (formed (kind_of w) w.body)) (ltb (cycle_of w) last) (leb (2 ^ 48) (cycle_of w))
 
--- one record more: its cycle, and the first number
+-- one record more: its cycle, and the first fault
 unfoldable pub judged : Judge → Whole → Judge
-judged j w = record { last = cycle_of w; found = cond (eqb j.found 0) (refused_after j.last w) j.found }
+judged j w = record { last = cycle_of w; found = option_or j.found (refused_after j.last w) }
 
 unfoldable pub judged_all : Judge → List Whole → Judge
 judged_all j [] = j
@@ -33,6 +36,10 @@ noted pins w = cond (eqb (kind_of w) 0) (set pins (w.body / 256) true) pins
 unfoldable pub noted_all : List Bool → List Whole → List Bool
 noted_all pins [] = pins
 noted_all pins (w ∷ ws) = noted_all (noted pins w) ws
+
+-- one record more, judged and noted
+abbrev pub recorded : Check → Whole → Check
+recorded c w = record c { judge = judged c.judge w; pins = noted c.pins w }
 
 -- bytes more; past the longest log they are no longer counted
 unfoldable pub counted : ℕ → ℕ → ℕ
@@ -47,9 +54,9 @@ checked c bytes = record {
   pins = noted_all c.pins (wholes c.part bytes);
 }
 
--- the length comes first: a wrong one is 13 whatever the records were judged
-unfoldable pub refusal_in : Check → ℕ
-refusal_in c = cond (between c.part && leb c.seen longest) c.judge.found 13
+-- the length comes first: a wrong one is malformed whatever the records were judged
+unfoldable pub refusal_in : Check → Option Fault
+refusal_in c = cond (between c.part && leb c.seen longest) c.judge.found (Some fault.Malformed)
 
 -- the pins that the log drives, by number
 abbrev pub pins_in : Check → List Bool

@@ -1,3 +1,4 @@
+pub mod Fault
 pub mod Changes
 pub mod Refusal
 pub mod Check

@@ -5,10 +5,10 @@
 pub mod judge;
 
 ghost use Rattle.std.specs.Prelude.{◌≡◌};
-ghost use Rattle.verdict.specs.Check.{fresh, counted, checked, refusal_in, pins_in};
+ghost use Rattle.verdict.specs.Check.{fresh, counted, recorded, checked, refusal_in, pins_in};
 
-use crate::judge::Judge;
-use pieces::Part;
+use crate::judge::{Fault, Judge};
+use pieces::{Kind, Part, Whole};
 
 // The longest log that is taken, in bytes.
 const LONGEST: u64 = 0x4000_0000;
@@ -23,16 +23,11 @@ pub struct Check {
 }
 
 // The bytes seen with those of a piece; past the longest log they are no longer counted.
+#[tactic(auto, unfolding(crate::specs::Check::counted))]
 fn counted(seen: u64, n: usize) -> u64
     ensures { result ≡ counted seen n }
 {
-    if LONGEST < seen {
-        return LONGEST + 1;
-    }
-    if LONGEST - seen < n as u64 {
-        return LONGEST + 1;
-    }
-    seen + n as u64
+    seen.saturating_add(n as u64).min(LONGEST + 1)
 }
 
 impl Check {
@@ -40,61 +35,54 @@ impl Check {
     pub fn new() -> Check
         ensures { result ≡ fresh }
     {
-        let part = Part::new();
-        let judge = Judge::new();
         Check {
-            part,
+            part: Part::new(),
             seen: 0,
-            judge,
+            judge: Judge::new(),
             pins: [false; 256],
         }
     }
 
-    // Takes the next piece, of any length.
-    pub fn piece(self, bytes: &[u8]) -> Check
-        ensures { result ≡ checked self bytes.now }
+    // Takes the next whole record.
+    #[tactic(auto, unfolding(crate::specs::Check::noted))]
+    fn record(&mut self, whole: Whole)
+        ensures { self.new ≡ recorded self.old whole }
     {
-        let seen = counted(self.seen, bytes.len());
-        let mut part = self.part;
-        let mut judge = self.judge;
-        let mut pins = self.pins;
-        let mut at = 0;
-        while at < bytes.len() {
-            let next = part.next(bytes, at);
-            let whole = next.whole;
-            let pin = (whole.body / 256) as usize;
-            let drives = next.ends & (whole.kind() == 0);
-            pins[pin] = pins[pin] | drives;
-            judge = judge.after(next.ends, whole);
-            part = next.part;
-            at = next.at;
+        if whole.kind() == Kind::Pin {
+            self.pins[(whole.body / 256) as usize] = true;
         }
-        Check {
-            part,
-            seen,
-            judge,
-            pins,
-        }
+        self.judge.judge(whole);
     }
 
-    // Why the log is refused, 13, 14 or 15, once its last piece is taken; 0 where it is not.
-    pub fn refusal(self) -> u8
-        ensures { result ≡ refusal_in self }
+    // Takes the next piece, of any length.
+    pub fn piece(&mut self, bytes: &[u8])
+        ensures { self.new ≡ checked self.old bytes.now }
     {
-        let part = self.part;
-        let judge = self.judge;
-        let fits = part.between() & (self.seen <= LONGEST);
-        let found = judge.found();
-        if !fits {
-            return 13;
+        self.seen = counted(self.seen, bytes.len());
+        let mut records = self.part.records(bytes);
+        // After a `for` over `&mut records` no proof knows what it left.
+        while let Some(whole) = records.next() {
+            self.record(whole);
         }
-        found
+        self.part = records.remainder();
+    }
+
+    // Why the log is refused, once its last piece is taken; a wrong length comes before all else.
+    #[tactic(auto, unfolding(crate::specs::Check::refusal_in))]
+    pub fn refusal(&self) -> Option<Fault>
+        ensures { result ≡ refusal_in self.now }
+    {
+        if self.part.between() && self.seen <= LONGEST {
+            self.judge.found()
+        } else {
+            Some(Fault::Malformed)
+        }
     }
 
     // Which pins the log drives.
-    pub fn pins(self) -> [bool; 256]
-        ensures { result ≡ pins_in self }
+    pub fn pins(&self) -> &[bool; 256]
+        ensures { result.now ≡ pins_in self.now }
     {
-        self.pins
+        &self.pins
     }
 }

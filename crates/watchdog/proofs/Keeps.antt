@@ -16,7 +16,7 @@ use Rattle.wdtcsr.specs.State.{running, Sound}
 use Rattle.wdtcsr.specs.Timeouts.{period_of, resets, timed_out, Step, tick, linear}
 use Rattle.wdtcsr.specs.Wdtcsr.{bit_at, wanted_p, takes, too_long, control_to, window_to, stopped_at, written, rewound, served}
 use Rattle.wdtcsr.proofs.Ticks.{cond-case}
-use Rattle.wdtcsr.proofs.Bounds.{period-at, timed-out-sound}
+use Rattle.wdtcsr.proofs.Bounds.{period-upto, timed-out-sound}
 use Rattle.oscillator.specs.declared.state.Watchdog.{Watchdog}
 use Rattle.oscillator.specs.State.{moving_to, accepted_at, Valid}
 use Rattle.oscillator.specs.Oscillator.{oscillator, Run, one, ticks, due, start, sync_of, passed, run_of, synced, is_due}
@@ -55,7 +55,7 @@ tick-lasts cycle m y =
 
     counted : running m ≡ true → m.count + 1 < period_of m.control.wdp → Lasting (record { moving = record { count = m.count + 1; control = m.control; window = m.window }; log = [] })
     counted r l =
-        let p = (period-at m.control.wdp y.sound.wdp).1 in
+        let p = period-upto m.control.wdp y.sound.wdp in
         record { sound = record { count = omega arith; wdp = y.sound.wdp; stopped = λ e. absurd (false≢true (sym e ∙ r)) }; since = y.since }
 
 module _ (fits : ℕ → Bool) where

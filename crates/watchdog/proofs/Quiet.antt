@@ -1,13 +1,12 @@
 -- Before the announced event nothing but the count moves, and an advance with ten bytes of area works it.
 use Prim.Native.Nat.{ℕ, ◌+◌, ◌≤◌}
-use native.Mathlib.Omega.{arith}
 use mathlib.Core.Path.{◌≡◌, refl, ◌∙◌}
 use mathlib.Core.Bool.{Bool, true, false, cond}
 use borrow.Author.Tests.{le-leb}
 use Rattle.time.specs.declared.units.Cycle.{Cycle}
 use Rattle.wdtcsr.specs.State.{running}
 use Rattle.wdtcsr.specs.Timeouts.{linear, gap_of}
-use Rattle.oscillator.specs.declared.next.Next.TheVariants.{At, Never}
+use Rattle.std.specs.Prelude.{Option, Some, None}
 use Rattle.oscillator.specs.declared.state.Watchdog.{Watchdog}
 use Rattle.oscillator.specs.Oscillator.{quiet, start, next_at, next_of}
 use Rattle.oscillator.proofs.Runs.{quiet-ticks}
@@ -15,20 +14,20 @@ use Rattle.oscillator.proofs.Syncs.{before-next}
 use Rattle.watchdog.specs.Claims.{OnlyCounts, Quiet}
 
 -- an announced event says that it runs, and when
-pub announced : (w : Watchdog) (next : Cycle) → next_of w ≡ At next → (running w.moving ≡ true) × (next.0 ≡ next_at w)
+pub announced : (w : Watchdog) (next : Cycle) → next_of w ≡ Some next → (running w.moving ≡ true) × (next.0 ≡ next_at w)
 unfolding next_of
 announced w next e = go (running w.moving) refl e
   where
-    go : (b : Bool) → running w.moving ≡ b → cond b (At (record { 0 = next_at w })) Never ≡ At next → (running w.moving ≡ true) × (next.0 ≡ next_at w)
+    go : (b : Bool) → running w.moving ≡ b → cond b (Some (record { 0 = next_at w })) None ≡ Some next → (running w.moving ≡ true) × (next.0 ≡ next_at w)
     go true r h = (r, cc)
-    go false r h = let z : ◌≡◌ {A = ℕ} 0 1 = cc in absurd (omega arith)
+    go false r h = cc
 
-pub none-announced : (w : Watchdog) → next_of w ≡ Never → running w.moving ≡ false
+pub none-announced : (w : Watchdog) → next_of w ≡ None → running w.moving ≡ false
 unfolding next_of
 none-announced w e = go (running w.moving) refl e
   where
-    go : (b : Bool) → running w.moving ≡ b → cond b (At (record { 0 = next_at w })) Never ≡ Never → running w.moving ≡ false
-    go true r h = let z : ◌≡◌ {A = ℕ} 0 1 = cc in absurd (omega arith)
+    go : (b : Bool) → running w.moving ≡ b → cond {A = Option Cycle} b (Some (record { 0 = next_at w })) None ≡ None → running w.moving ≡ false
+    go true r h = cc
     go false r h = r
 
 only-counts : (w : Watchdog) (n : ℕ) → running w.moving ≡ true → n ≤ gap_of w.moving → OnlyCounts w n (w.moving.count + n)

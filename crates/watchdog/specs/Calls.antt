@@ -1,5 +1,5 @@
 -- What each call does: refusals first, then the time that passes, then its own work (02, 2.8).
-use Rattle.std.specs.Prelude.{ℕ, cond, List, ◌++◌, eqb, leb, length, drop}
+use Rattle.std.specs.Prelude.{ℕ, cond, List, ◌++◌, eqb, leb, length, drop, Result}
 use Rattle.time.specs.Units.{late_at}
 use Rattle.wdtcsr.specs.declared.state.Moving.{Moving}
 use Rattle.wdtcsr.specs.Wdtcsr.{value_of, too_long, written, rewound, served}
@@ -9,6 +9,7 @@ use Rattle.oscillator.specs.Oscillator.{Run, Passage, ticks, passed, run_of, syn
 use Rattle.watchdog.specs.declared.calls.Call.{Call}
 use Rattle.watchdog.specs.declared.calls.Call.TheVariants as call
 use Rattle.watchdog.specs.declared.outcome.Outcome.{Outcome}
+use Rattle.watchdog.specs.declared.outcome.Refusal.{Refusal}
 use Rattle.watchdog.specs.Outcome.{none, byte, event, paused, Told, turned, given, Tells}
 
 -- ---- refusals: "01's numbers 2, 3 and 6 stand here too"
@@ -63,6 +64,6 @@ performed p w (call.Write value) cycle area = given (worked p w cycle (λ m. wri
 unfoldable pub answered : Passage → Watchdog → Call → ℕ → List ℕ → Told
 answered p w c cycle area = cond (eqb (refusal_of w c cycle) 0) (performed p w c cycle area) (turned (refusal_of w c cycle) w area)
 
--- what a function without an area promises: the call's outcome, and whatever the area, it stays as it is
-abbrev pub Answers : Watchdog → Call → ℕ → Outcome → Type 0
-Answers w c cycle r = (area : List ℕ) → Tells (answered ticks w c cycle area) r area
+-- what a function without an area promises: the call's outcome or refusal, and whatever the area, it stays as it is
+abbrev pub Answers : Watchdog → Call → ℕ → Result Outcome Refusal → Type 0
+Answers w c cycle r = (area : List ℕ) → Tells (answered ticks w c cycle area) w r area

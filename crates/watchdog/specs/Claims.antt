@@ -1,16 +1,16 @@
 -- What is claimed of the watchdog over every list of calls (02, 2.8). Proofs stand apart, in proofs/.
-use Rattle.std.specs.Prelude.{ℕ, ◌+◌, ◌≤◌, ◌<◌, true, false, List, [], ◌∷◌, ◌≡◌, length, take}
+use Rattle.std.specs.Prelude.{ℕ, ◌+◌, ◌≤◌, ◌<◌, true, false, List, [], ◌∷◌, ◌≡◌, length, take, Some, None, Result}
 use Rattle.records.specs.Records.{record_of}
 use Rattle.time.specs.declared.units.Cycle.{Cycle}
 use Rattle.time.specs.Units.{ticks_at, cycle_at}
 use Rattle.wdtcsr.specs.Timeouts.{count_to, timeout}
-use Rattle.oscillator.specs.declared.next.Next.TheVariants.{At, Never}
 use Rattle.oscillator.specs.declared.state.Watchdog.{Watchdog}
 use Rattle.oscillator.specs.State.{fresh, Valid}
 use Rattle.oscillator.specs.Oscillator.{oscillator, Passage, ticks, timeouts, start, next_of}
 use Rattle.watchdog.specs.declared.calls.Call.{Call}
 use Rattle.watchdog.specs.declared.calls.Call.TheVariants as call
 use Rattle.watchdog.specs.declared.outcome.Outcome.{Outcome}
+use Rattle.watchdog.specs.declared.outcome.Refusal.{Refusal}
 use Rattle.watchdog.specs.Outcome.{Told, Tells, heard}
 use Rattle.watchdog.specs.Calls.{refusal_of, answered}
 
@@ -48,10 +48,10 @@ pub record Same (w : Watchdog) (qs : List Request) : Type 0 where
 abbrev pub Alike : Type 0
 Alike = (qs : List Request) → Same fresh qs
 
--- a history of the public functions: each on the watchdog as the one before gave it back, each with its promise
+-- a history of the public functions: each on the watchdog as the one before gave it back, or left it where it was refused, each with its promise
 pub data History : Watchdog → List Request → List Told → Watchdog → Type 0 where
   nothing : (w : Watchdog) → History w [] [] w
-  called : (w : Watchdog) (q : Request) (r : Outcome) (after : List ℕ) (qs : List Request) (xs : List Told) (u : Watchdog) → Tells (told ticks w q) r after → History r.watchdog qs xs u → History w (q ∷ qs) (heard r after ∷ xs) u
+  called : (w : Watchdog) (q : Request) (r : Result Outcome Refusal) (after : List ℕ) (qs : List Request) (xs : List Told) (u : Watchdog) → Tells (told ticks w q) w r after → History (heard w r after).watchdog qs xs u → History w (q ∷ qs) (heard w r after ∷ xs) u
 
 -- what a history of the public functions gave is what the watchdog that skips gives, outcome by outcome
 pub record Heard (qs : List Request) (xs : List Told) (u : Watchdog) : Type 0 where
@@ -70,8 +70,8 @@ OnlyCounts w n count =
 
 -- before the announced event nothing but the count moves, and with none announced not even that
 pub record Quietly (w : Watchdog) (n : ℕ) : Type 0 where
-  pub before : (next : Cycle) → next_of w ≡ At next → cycle_at oscillator (ticks_at oscillator w.sync.0 + n) < next.0 → OnlyCounts w n (w.moving.count + n)
-  pub never : next_of w ≡ Never → OnlyCounts w n w.moving.count
+  pub before : (next : Cycle) → next_of w ≡ Some next → cycle_at oscillator (ticks_at oscillator w.sync.0 + n) < next.0 → OnlyCounts w n (w.moving.count + n)
+  pub never : next_of w ≡ None → OnlyCounts w n w.moving.count
 
 -- Quiet: after any list of calls
 abbrev pub Quiet : Type 0
@@ -85,5 +85,5 @@ pub record Works (w : Watchdog) (next : ℕ) (x : Told) : Type 0 where
 -- Progress: after any list, an advance to the announced event or past it with ten bytes of area works it
 abbrev pub Progress : Type 0
 Progress = (qs : List Request) (cycle : ℕ) (area : List ℕ) (next : Cycle) → let w = last ticks fresh qs in
-    next_of w ≡ At next → refusal_of w call.Advance cycle ≡ 0 → next.0 ≤ cycle → 10 ≤ length area
+    next_of w ≡ Some next → refusal_of w call.Advance cycle ≡ 0 → next.0 ≤ cycle → 10 ≤ length area
     → Works w next.0 (told ticks w (record { call = call.Advance; cycle = cycle; area = area }))

@@ -1,6 +1,5 @@
 -- Readings of a watchdog on the bench (02, 2.8; the sheet, "Watchdog Timer"): for each the calls, and what they must answer. At p 0 a time-out comes 256,000 cycles on.
-use Rattle.std.specs.Prelude.{ℕ, List, [], ◌∷◌, ◌≡◌, take, replicate}
-use Rattle.oscillator.specs.declared.next.Next.TheVariants as next
+use Rattle.std.specs.Prelude.{ℕ, List, [], ◌∷◌, ◌≡◌, take, replicate, Some, None}
 use Rattle.oscillator.specs.declared.state.Watchdog.{Watchdog}
 use Rattle.oscillator.specs.State.{fresh}
 use Rattle.oscillator.specs.Oscillator.{Passage, ticks}
@@ -47,10 +46,10 @@ serves cycle = record { call = Serve; cycle = cycle; room = 0; number = 0; value
 
 -- the next event asked for, and none
 abbrev pub announces : ℕ → ℕ → Step
-announces cycle at = record { call = Next; cycle = cycle; room = 0; number = 0; values = event (next.At (record { 0 = at })); bytes = [] }
+announces cycle at = record { call = Next; cycle = cycle; room = 0; number = 0; values = event (Some (record { 0 = at })); bytes = [] }
 
 abbrev pub announces_none : ℕ → Step
-announces_none cycle = record { call = Next; cycle = cycle; room = 0; number = 0; values = event next.Never; bytes = [] }
+announces_none cycle = record { call = Next; cycle = cycle; room = 0; number = 0; values = event None; bytes = [] }
 
 -- an advance that gets there, with its records; and one that stops for want of area
 abbrev pub reaches : ℕ → List ℕ → Step

@@ -1,12 +1,13 @@
-// The calls, each by value with its cycle; the advance with its area.
+// The calls, each by value with its cycle; the advance with its area. A call that is turned away leaves the caller's watchdog
+// and area as they were.
 
-ghost use Rattle.std.specs.Prelude.{◌≡◌};
+ghost use Rattle.std.specs.Prelude.{◌≡◌, IfOk};
 ghost use Rattle.oscillator.specs.State.{Valid};
-ghost use Rattle.oscillator.specs.Oscillator.{ticks};
-ghost use Rattle.watchdog.specs.Outcome.{Tells};
-ghost use Rattle.watchdog.specs.Calls.{early, answered, Answers};
+ghost use Rattle.oscillator.specs.Oscillator.{ticks, synced};
+ghost use Rattle.watchdog.specs.Outcome.{number_in, Tells};
+ghost use Rattle.watchdog.specs.Calls.{late, early, answered, Answers};
 
-use crate::outcome::{Answer, Outcome, done, refused};
+use crate::outcome::{Answer, Outcome, Refusal, done};
 use oscillator::state::Watchdog;
 use time::units::Cycle;
 
@@ -21,117 +22,105 @@ pub enum Call {
     Write(u8),
 }
 
-// 2, 3 or 6, the first that applies, else 0.
-fn early(w: Watchdog, cycle: Cycle) -> u8
-    requires { Valid w }
-    ensures { result ≡ early w cycle.0 }
+// Is the cycle one that a call may have, and not before the latest.
+fn in_order(w: Watchdog, cycle: Cycle) -> Result<(), Refusal>
+    ensures { number_in result ≡ late w cycle.0 }
 {
-    let n = cycle.refusal(w.latest);
-    if n != 0 {
-        n
-    } else if w.is_due(cycle) {
-        6
-    } else {
-        0
+    match cycle.refusal(w.latest) {
+        0 => Ok(()),
+        2 => Err(Refusal::TooLarge),
+        _ => Err(Refusal::TooEarly),
     }
+}
+
+// Does the next event, too, lie after the cycle.
+#[tactic(auto, unfolding(crate::specs::Calls::early))]
+fn in_time(w: Watchdog, cycle: Cycle) -> Result<(), Refusal>
+    requires { Valid w }
+    ensures { number_in result ≡ early w cycle.0 }
+{
+    in_order(w, cycle)?;
+    if w.is_due(cycle) {
+        return Err(Refusal::Due);
+    }
+    Ok(())
+}
+
+// The watchdog whose time has passed up to a call's cycle.
+fn synced(w: Watchdog, cycle: Cycle) -> Result<Watchdog, Refusal>
+    requires { Valid w }
+    ensures number { number_in result ≡ early w cycle.0 }
+    ensures ok { IfOk result (λ s. s ≡ synced ticks w cycle.0) }
+{
+    in_time(w, cycle)?;
+    Ok(w.sync(cycle))
 }
 
 // Time passes up to a cycle, or to the first time-out whose record does not fit; yields the sync cycle where it stops.
-pub fn advance(w: Watchdog, cycle: Cycle, area: &mut [u8]) -> Outcome
+#[tactic(auto, using(crate::proofs::Outcomes::turned_away), unfolding(crate::specs::Calls::refusal_of))]
+pub fn advance(w: Watchdog, cycle: Cycle, area: &mut [u8]) -> Result<Outcome, Refusal>
     requires { Valid w }
-    ensures { Tells (answered ticks w Call.Advance cycle.0 area.old) result area.new }
+    ensures { Tells (answered ticks w Call.Advance cycle.0 area.old) w result area.new }
 {
-    let n = cycle.refusal(w.latest);
-    if n != 0 {
-        return refused(w, n);
-    }
-    let a = w.advance(cycle, area);
-    let moved = a.watchdog;
-    if a.paused {
-        let sync = moved.sync;
-        return Outcome {
-            answer: Answer::Paused(sync),
-            watchdog: moved,
-            written: a.written,
-        };
-    }
-    Outcome {
-        answer: Answer::Done,
-        watchdog: moved,
-        written: a.written,
-    }
+    in_order(w, cycle)?;
+    let advanced = w.advance(cycle, area);
+    Ok(Outcome {
+        answer: advanced.paused.map_or(Answer::Done, Answer::Paused),
+        watchdog: advanced.watchdog,
+        written: advanced.written,
+    })
 }
 
 // Yields the next event.
-pub fn next(w: Watchdog, cycle: Cycle) -> Outcome
+#[tactic(auto, using(crate::proofs::Outcomes::turned_away), unfolding(crate::specs::Calls::refusal_of))]
+pub fn next(w: Watchdog, cycle: Cycle) -> Result<Outcome, Refusal>
     requires { Valid w }
     ensures { Answers w Call.Next cycle.0 result }
 {
-    let n = early(w, cycle);
-    if n != 0 {
-        return refused(w, n);
-    }
-    done(w, cycle, Answer::Next(w.next()))
+    in_time(w, cycle)?;
+    Ok(done(w, cycle, Answer::Next(w.next())))
 }
 
 // WDR: the count starts anew.
-pub fn wdr(w: Watchdog, cycle: Cycle) -> Outcome
+#[tactic(auto, using(crate::proofs::Outcomes::turned_away), unfolding(crate::specs::Calls::refusal_of))]
+pub fn wdr(w: Watchdog, cycle: Cycle) -> Result<Outcome, Refusal>
     requires { Valid w }
     ensures { Answers w Call.Wdr cycle.0 result }
 {
-    let n = early(w, cycle);
-    if n != 0 {
-        return refused(w, n);
-    }
-    let s = w.sync(cycle);
-    let m = s.moving;
-    done(s.with(m.rewound()), cycle, Answer::Done)
+    let s = synced(w, cycle)?;
+    Ok(done(s.with(s.moving.rewound()), cycle, Answer::Done))
 }
 
 // The interrupt is served.
-pub fn serve(w: Watchdog, cycle: Cycle) -> Outcome
+#[tactic(auto, using(crate::proofs::Outcomes::turned_away), unfolding(crate::specs::Calls::refusal_of))]
+pub fn serve(w: Watchdog, cycle: Cycle) -> Result<Outcome, Refusal>
     requires { Valid w }
     ensures { Answers w Call.Serve cycle.0 result }
 {
-    let n = early(w, cycle);
-    if n != 0 {
-        return refused(w, n);
-    }
-    let s = w.sync(cycle);
-    let m = s.moving;
-    done(s.with(m.served()), cycle, Answer::Done)
+    let s = synced(w, cycle)?;
+    Ok(done(s.with(s.moving.served()), cycle, Answer::Done))
 }
 
 // Yields WDTCSR.
-pub fn read(w: Watchdog, cycle: Cycle) -> Outcome
+#[tactic(auto, using(crate::proofs::Outcomes::turned_away), unfolding(crate::specs::Calls::refusal_of))]
+pub fn read(w: Watchdog, cycle: Cycle) -> Result<Outcome, Refusal>
     requires { Valid w }
     ensures { Answers w Call.Read cycle.0 result }
 {
-    let n = early(w, cycle);
-    if n != 0 {
-        return refused(w, n);
-    }
-    let s = w.sync(cycle);
-    let m = s.moving;
-    done(s, cycle, Answer::Value(m.wdtcsr(cycle)))
+    let s = synced(w, cycle)?;
+    Ok(done(s, cycle, Answer::Value(s.moving.wdtcsr(cycle))))
 }
 
 // WDTCSR is written.
-pub fn write(w: Watchdog, value: u8, cycle: Cycle) -> Outcome
+#[tactic(auto, using(crate::proofs::Outcomes::turned_away), unfolding(crate::specs::Calls::refusal_of))]
+pub fn write(w: Watchdog, value: u8, cycle: Cycle) -> Result<Outcome, Refusal>
     requires { Valid w }
     ensures { Answers w (Call.Write value) cycle.0 result }
 {
-    let was = w.moving;
-    let window = was.window;
-    let long = window.too_long(value, cycle);
-    let number = early(w, cycle);
-    if number != 0 {
-        return refused(w, number);
+    let window = w.moving.window;
+    let s = synced(w, cycle)?;
+    if window.too_long(value, cycle) {
+        return Err(Refusal::TooLong);
     }
-    if long {
-        return refused(w, 17);
-    }
-    let s = w.sync(cycle);
-    let m = s.moving;
-    done(s.with(m.write(value, cycle)), cycle, Answer::Done)
+    Ok(done(s.with(s.moving.write(value, cycle)), cycle, Answer::Done))
 }

@@ -12,13 +12,13 @@ ghost use Rattle.watchdog.specs.Calls.{answered};
 
 use calls::{Call, advance, next, read, serve, wdr, write};
 use oscillator::state::Watchdog;
-use outcome::Outcome;
+use outcome::{Outcome, Refusal};
 use time::units::Cycle;
 
-// Any call.
-pub fn call(w: Watchdog, c: Call, cycle: Cycle, area: &mut [u8]) -> Outcome
+// Any call; one that is turned away leaves the caller's watchdog and area as they were.
+pub fn call(w: Watchdog, c: Call, cycle: Cycle, area: &mut [u8]) -> Result<Outcome, Refusal>
     requires { Valid w }
-    ensures { Tells (answered ticks w c cycle.0 area.old) result area.new }
+    ensures { Tells (answered ticks w c cycle.0 area.old) w result area.new }
 {
     match c {
         Call::Advance => advance(w, cycle, area),

@@ -1,39 +1,54 @@
-// What a call answers.
+// What a call answers, or why it is turned away.
 
 ghost use Rattle.std.specs.Prelude.{◌≡◌};
 ghost use Rattle.oscillator.specs.State.{accepted_at};
+ghost use Rattle.watchdog.specs.Outcome.{number_of};
 
-use oscillator::next::Next;
 use oscillator::state::Watchdog;
 use time::units::Cycle;
 
-// A refusal's number; or done, WDTCSR as read, the next event, or the sync cycle of an advance that stopped.
+// Why a call is turned away.
+#[derive(Clone, Copy, PartialEq, Eq)]
+pub enum Refusal {
+    // The cycle is over 2^62 - 1.
+    TooLarge,
+    // The cycle is below the latest accepted.
+    TooEarly,
+    // The next event lies at or before the cycle.
+    Due,
+    // A write would take a prescaler from 10 to 15.
+    TooLong,
+}
+
+impl Refusal {
+    // The refusal's number.
+    pub fn number(self) -> u8
+        ensures { result ≡ number_of self }
+    {
+        match self {
+            Refusal::TooLarge => 2,
+            Refusal::TooEarly => 3,
+            Refusal::Due => 6,
+            Refusal::TooLong => 17,
+        }
+    }
+}
+
+// Done, WDTCSR as read, the next event, or the sync cycle of an advance that stopped.
 #[derive(Clone, Copy)]
 pub enum Answer {
-    Refused(u8),
     Done,
     Value(u8),
-    Next(Next),
+    Next(Option<Cycle>),
     Paused(Cycle),
 }
 
-// The answer, the watchdog after the call, and the bytes written from the area's start.
+// The answer of an accepted call, the watchdog after it, and the bytes written from the area's start.
 #[derive(Clone, Copy)]
 pub struct Outcome {
     pub answer: Answer,
     pub watchdog: Watchdog,
     pub written: usize,
-}
-
-// A call turned away: the watchdog is as it was.
-pub fn refused(w: Watchdog, number: u8) -> Outcome
-    ensures { result ≡ record { answer = Answer.Refused number; watchdog = w; written = 0 } }
-{
-    Outcome {
-        answer: Answer::Refused(number),
-        watchdog: w,
-        written: 0,
-    }
 }
 
 // A call accepted at a cycle that writes no record.

@@ -9,13 +9,11 @@ use lib.Dec.{eqb, leb, ltb}
 use lib.ListN.{length, length-append, length-drop}
 use Rattle.figures.proofs.Writing.{number_short}
 use Rattle.tick.proofs.Choices.{cond-all}
-use Rattle.words.specs.declared.Taken.{Taken}
-use Rattle.words.proofs.Numerals.{next-most}
 use Rattle.page.proofs.Lengths.{Upto, said, numbered, either, codes-length, pair-length, flag-length}
 use Rattle.display.proofs.Lengths.{records-short}
 use Rattle.room.specs.Room.{changed_at}
-use Rattle.oscillator.specs.declared.next.Next.{Next}
-use Rattle.oscillator.specs.declared.next.Next.TheVariants as next
+use Rattle.time.specs.declared.units.Cycle.{Cycle}
+use Rattle.std.specs.Prelude.{Option, Some, None}
 use Rattle.oscillator.specs.declared.state.Watchdog.{Watchdog}
 use Rattle.oscillator.specs.Oscillator.{Run, ticks, one, due, start, run_of, next_of as eventAfter}
 use Rattle.oscillator.proofs.Runs.{one-fits}
@@ -23,7 +21,6 @@ use Rattle.watchdog.specs.declared.calls.Call.{Call}
 use Rattle.watchdog.specs.declared.calls.Call.TheVariants as call
 use Rattle.watchdog.specs.Outcome.{Told, Values, refused, none, byte, event, paused}
 use Rattle.watchdog.specs.Calls.{refusal_of, advanced, moved, performed, answered}
-use Rattle.wdt_lines.specs.Asked.{size_of, asked_of}
 use Rattle.wdt_lines.specs.Shown.{event_of, left_by, said_of, unless_refused, answer_of, bits_of, state_of}
 use Rattle.wdt_lines.specs.Called.{told_of}
 
@@ -53,11 +50,6 @@ pub answered-area : (w : Watchdog) (c : Call) (cycle : ℕ) (area : List ℕ) �
 unfolding answered
 answered-area w c cycle area = cond-all (λ (x : Told). length x.area ≡ length area) (eqb (refusal_of w c cycle) 0) (performed-area w c cycle area) refl
 
--- and a line asks for 4,096 at most
-pub asked-size : (line : List ℕ) (at name : ℕ) → (asked_of line at name).size ≤ 4096
-unfolding asked_of size_of
-asked-size line at name = cond-all (λ (t : Taken). t.value ≤ 4096) (eqb name 0) (next-most line _ 10 4096) (omega arith)
-
 -- ---- what is shown
 
 said-short : (n : ℕ) (v : Values) → length (said_of n v) ≤ 33
@@ -68,10 +60,10 @@ said-short n (byte value) = simp (length-append, codes-length, pair-length) (ome
 said-short n (event e) = said _ (omega arith)
 said-short n (paused cycle) = numbered _ _ cycle (omega arith)
 
-event-short : (e : Next) → length (event_of e) ≤ 26
+event-short : (e : Option Cycle) → length (event_of e) ≤ 26
 unfolding event_of
-event-short (next.At cycle) = numbered _ _ cycle.0 (omega arith)
-event-short next.Never = said _ (omega arith)
+event-short (Some cycle) = numbered _ _ cycle.0 (omega arith)
+event-short None = said _ (omega arith)
 
 unless-short : (v : Values) (left : List ℕ) → length (unless_refused v left) ≤ length left
 unfolding unless_refused

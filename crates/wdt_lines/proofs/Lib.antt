@@ -1,5 +1,3 @@
-pub mod Asking
 pub mod Telling
-pub mod Leaving
 pub mod Lengths
 pub mod Claims

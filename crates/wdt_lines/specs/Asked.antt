@@ -1,49 +1,75 @@
--- What a watchdog's line asks for (docs/SCRIPT.md, "The watchdog"): its words from left to right, by the name's place among the commands.
-use Rattle.std.specs.Prelude.{ℕ, ◌%◌, ◌^◌, ◌-◌, cond, List, eqb, ltb}
+-- What a watchdog's line asks for (docs/SCRIPT.md, "The watchdog"): its command, and its words from left to right.
+use Rattle.std.specs.Prelude.{ℕ, ◌%◌, ◌^◌, ◌-◌, ◌≤◌, cond, List, eqb, length, Option, Some, None, Result, Ok, Err, ⊤}
 use Rattle.figures.specs.Figures.{text}
-use Rattle.words.specs.Words.{exactly_of}
-use Rattle.words.specs.Numbers.{next_of, nothing_of}
-use Rattle.words.specs.declared.Cursor.{Cursor}
-use Rattle.words.specs.declared.Taken.{Taken}
+use Rattle.words.specs.Words.{skip_of, find_of, place_of, exactly_of, and_then}
+use Rattle.words.specs.Numbers.{between, next_of}
+use Rattle.words.specs.declared.Unreadable.{Unreadable}
+use Rattle.words.specs.declared.Unreadable.TheVariants as unreadable
 use Rattle.watchdog.specs.declared.calls.Call.{Call}
 use Rattle.watchdog.specs.declared.calls.Call.TheVariants as call
 use Rattle.wdt_lines.specs.declared.asked.Asked.{Asked}
+use Rattle.wdt_lines.specs.declared.asked.Asked.TheVariants as asked
+use Rattle.wdt_lines.specs.declared.asked.Command.{Command}
+use Rattle.wdt_lines.specs.declared.asked.Command.TheVariants as command
 
--- the commands: the calls, then `new` and `state`
+-- the names of the commands: the calls, then `new` and `state`
 abbrev pub names : List ℕ
 names = text "advance write next wdr serve read new state"
 
--- two words of `advance CYCLE AREA` and `write VALUE CYCLE`, the cycle of the other calls, none of `new` and `state`
-unfoldable pub arguments_of : ℕ → ℕ
-arguments_of name = cond (ltb name 2) 2 (cond (ltb name 6) 1 0)
+-- the command of each, in their order
+unfoldable pub command_of : ℕ → Command
+command_of n =
+    cond (eqb n 0) command.Advance
+    (cond (eqb n 1) command.Write
+    (cond (eqb n 2) command.Next
+    (cond (eqb n 3) command.Wdr
+    (cond (eqb n 4) command.Serve
+    (cond (eqb n 5) command.Read
+    (cond (eqb n 6) command.New command.State))))))
 
--- "The value is WDTCSR, hexadecimal": of a write
-unfoldable pub value_of : List ℕ → Cursor → ℕ → Taken
-value_of line c name = cond (eqb name 1) (next_of line c 16 255) (nothing_of c)
+-- a call that has a cycle alone, 64 bits
+unfoldable pub plain_of : List ℕ → ℕ → Call → Result Asked Unreadable
+plain_of line at c = and_then (exactly_of line at 1) (λ _. and_then (next_of line at 10 (2 ^ 64 - 1)) (λ t. Ok (asked.Call c t.value 0)))
 
--- the cycle of a call, 64 bits
-unfoldable pub cycle_of : List ℕ → Cursor → ℕ → Taken
-cycle_of line c name = cond (ltb name 6) (next_of line c 10 (2 ^ 64 - 1)) (nothing_of c)
+-- `advance CYCLE AREA`: "only the advance has an area", its size in bytes, to 4,096
+unfoldable pub advance_of : List ℕ → ℕ → Result Asked Unreadable
+advance_of line at =
+    and_then (exactly_of line at 2) (λ _. and_then (next_of line at 10 (2 ^ 64 - 1)) (λ t. and_then (next_of line t.end 10 4096) (λ s. Ok (asked.Call call.Advance t.value s.value))))
 
--- "Only the advance has an area": its size in bytes, to 4,096
-unfoldable pub size_of : List ℕ → Cursor → ℕ → Taken
-size_of line c name = cond (eqb name 0) (next_of line c 10 4096) (nothing_of c)
+-- `write VALUE CYCLE`: "the value is WDTCSR, hexadecimal"
+unfoldable pub write_of : List ℕ → ℕ → Result Asked Unreadable
+write_of line at =
+    and_then (exactly_of line at 2) (λ _. and_then (next_of line at 16 255) (λ v. and_then (next_of line v.end 10 (2 ^ 64 - 1)) (λ t. Ok (asked.Call (call.Write (v.value % 256)) t.value 0))))
 
--- the call of each name, in the order of the commands, with its value
-unfoldable pub call_of : ℕ → ℕ → Call
-call_of name value =
-    cond (eqb name 0) call.Advance
-    (cond (eqb name 1) (call.Write (value % 256))
-    (cond (eqb name 2) call.Next
-    (cond (eqb name 3) call.Wdr
-    (cond (eqb name 4) call.Serve call.Read))))
+-- `new`, `state`: no words
+unfoldable pub alone_of : List ℕ → ℕ → Asked → Result Asked Unreadable
+alone_of line at q = and_then (exactly_of line at 0) (λ _. Ok q)
 
-abbrev pub ended_of : ℕ → Taken → Taken → Taken → Asked
-ended_of name value cycle size = record { name = name; call = call_of name value.value; cycle = cycle.value; size = size.value; why = size.next.why }
+-- what follows each command
+unfoldable pub asked_of : List ℕ → ℕ → Command → Result Asked Unreadable
+asked_of line at command.Advance = advance_of line at
+asked_of line at command.Write = write_of line at
+asked_of line at command.Next = plain_of line at call.Next
+asked_of line at command.Wdr = plain_of line at call.Wdr
+asked_of line at command.Serve = plain_of line at call.Serve
+asked_of line at command.Read = plain_of line at call.Read
+asked_of line at command.New = alone_of line at asked.New
+asked_of line at command.State = alone_of line at asked.State
 
--- the words from a place on, counted first
-unfoldable pub asked_of : List ℕ → ℕ → ℕ → Asked
-asked_of line at name =
-    let value = value_of line (exactly_of line at (arguments_of name)) name in
-    let cycle = cycle_of line value.next name in
-    ended_of name value cycle (size_of line cycle.next name)
+-- "unknown command"
+unfoldable pub named_of : List ℕ → ℕ → Option ℕ → Result Asked Unreadable
+named_of line end (Some n) = asked_of line end (command_of n)
+named_of line end None = Err unreadable.UnknownCommand
+
+-- from the place after `wdt`; "missing word"
+unfoldable pub line_of : List ℕ → ℕ → Result Asked Unreadable
+line_of line at =
+    let start = skip_of line at in
+    let end = find_of line start 32 in
+    cond (eqb start (length line)) (Err unreadable.MissingWord) (named_of line end (place_of names (between line start end)))
+
+-- an area's size is 4,096 at most
+abbrev pub Sized : Asked → Type 0
+Sized (asked.Call c cycle size) = size ≤ 4096
+Sized asked.New = ⊤
+Sized asked.State = ⊤

@@ -1,73 +1,66 @@
 -- The answers of a watchdog's lines (docs/SCRIPT.md, "The watchdog"), and the watchdog that they leave.
-use Rattle.std.specs.Prelude.{ℕ, true, cond, List, ◌++◌, ◌≡◌, eqb, ltb, length, drop}
+use Rattle.std.specs.Prelude.{ℕ, cond, List, ◌++◌, ◌≡◌, ltb, length, drop, Option, Some, None, Result, Ok, Err, IfSome}
 use Rattle.figures.specs.Figures.{text, number}
-use Rattle.words.specs.Words.{skip_of, find_of, place_of}
-use Rattle.words.specs.Numbers.{between}
+use Rattle.words.specs.declared.Unreadable.{Unreadable}
 use Rattle.page.specs.Page.{Puts, unreadable_of}
 use Rattle.room.specs.Room.{filled, changed_at}
 use Rattle.oscillator.specs.Oscillator.{ticks}
 use Rattle.oscillator.specs.State.{fresh, Valid}
+use Rattle.oscillator.specs.declared.state.Watchdog.{Watchdog}
 use Rattle.watchdog.specs.Outcome.{Told}
 use Rattle.watchdog.specs.Calls.{answered}
+use Rattle.watchdog.specs.declared.calls.Call.{Call}
 use Rattle.wdt_lines.specs.declared.asked.Asked.{Asked}
-use Rattle.wdt_lines.specs.declared.called.Left.{Left}
-use Rattle.wdt_lines.specs.declared.called.Watched.{Watched}
-use Rattle.wdt_lines.specs.Asked.{names, asked_of}
+use Rattle.wdt_lines.specs.declared.asked.Asked.TheVariants as asked
+use Rattle.wdt_lines.specs.Asked.{line_of}
 use Rattle.wdt_lines.specs.Shown.{answer_of, state_of}
 
--- what a line leaves: the watchdog, the answer's bytes, and the area
+-- what a line leaves: the watchdog, if there is one, the answer's bytes, and the area
 pub record Lined : Type 0 where
-  pub watched : Watched
+  pub watchdog : Option Watchdog
   pub bytes : List ℕ
   pub area : List ℕ
 
 -- a line that changes nothing
-abbrev pub saying : Watched → List ℕ → List ℕ → Lined
-saying w area bytes = record { watched = w; bytes = bytes; area = area }
-
--- "`wdt new` makes it, all bits clear and at cycle 0, and answers `ok config`"
-abbrev pub new_of : List ℕ → Lined
-new_of area = saying (record { ready = true; watchdog = fresh }) area (text "ok config")
+abbrev pub saying : Option Watchdog → List ℕ → List ℕ → Lined
+saying w area bytes = record { watchdog = w; bytes = bytes; area = area }
 
 -- "`area changed at I` in place of the answer" where the rest of the area does not hold A5
 unfoldable pub told_of : Told → List ℕ
 told_of x = cond (ltb (changed_at x.area x.written) (length x.area)) (text "area changed at " ++ number (changed_at x.area x.written)) (answer_of x)
 
 -- the watchdog that a call leaves, and its answer
-abbrev pub left_by : Watched → Told → Lined
-left_by w x = record { watched = record { ready = w.ready; watchdog = x.watchdog }; bytes = told_of x; area = x.area }
+abbrev pub left_by : Told → Lined
+left_by x = record { watchdog = Some x.watchdog; bytes = told_of x; area = x.area }
 
 -- the call answered, on an area of so many bytes
-abbrev pub called_of : Watched → Asked → ℕ → Lined
-called_of w q size = left_by w (answered ticks w.watchdog q.call q.cycle (filled size))
+abbrev pub called_of : Watchdog → Call → ℕ → ℕ → Lined
+called_of w call cycle size = left_by (answered ticks w call cycle (filled size))
 
 -- a line's answer with what lies behind the area that its call had
 abbrev pub behind : Lined → List ℕ → Lined
-behind x rest = record { watched = x.watched; bytes = x.bytes; area = x.area ++ rest }
+behind x rest = record { watchdog = x.watchdog; bytes = x.bytes; area = x.area ++ rest }
 
--- of a watchdog that there is: shown, or called
-unfoldable pub ready_of : Watched → Asked → List ℕ → Lined
-ready_of w q area = cond (eqb q.name 7) (saying w area (state_of w.watchdog)) (behind (called_of w q q.size) (drop q.size area))
+-- what a line asks for: "`wdt new` makes it, all bits clear and at cycle 0, and answers `ok config`"; before that "the other lines answer `no timer`"
+unfoldable pub heard_of : Option Watchdog → Asked → List ℕ → Lined
+heard_of w asked.New area = saying (Some fresh) area (text "ok config")
+heard_of None asked.State area = saying None area (text "no timer")
+heard_of None (asked.Call call cycle size) area = saying None area (text "no timer")
+heard_of (Some w) asked.State area = saying (Some w) area (state_of w)
+heard_of (Some w) (asked.Call call cycle size) area = behind (called_of w call cycle size) (drop size area)
 
--- what a line asks for; before `new` "the other lines answer `no timer`"
-unfoldable pub heard_of : Watched → ℕ → Asked → List ℕ → Lined
-heard_of w nth q area =
-    cond (eqb q.why 0)
-    (cond (eqb q.name 6) (new_of area) (cond w.ready (ready_of w q area) (saying w area (text "no timer"))))
-    (saying w area (unreadable_of nth q.why))
+-- or why it cannot be read
+unfoldable pub read_of : Option Watchdog → ℕ → Result Asked Unreadable → List ℕ → Lined
+read_of w nth (Ok q) area = heard_of w q area
+read_of w nth (Err why) area = saying w area (unreadable_of nth why)
 
--- by its name, from the place after `wdt`: "missing word" is 4, "unknown command" 1
-unfoldable pub wdt_line : Watched → ℕ → List ℕ → ℕ → List ℕ → Lined
-wdt_line w nth line at area =
-    let start = skip_of line at in
-    let end = find_of line start 32 in
-    let name = place_of names (between line start end) in
-    cond (eqb start (length line)) (saying w area (unreadable_of nth 4))
-    (cond (ltb name 8) (heard_of w nth (asked_of line end name) area) (saying w area (unreadable_of nth 1)))
+-- the line, from the place after `wdt`
+abbrev pub wdt_line : Option Watchdog → ℕ → List ℕ → ℕ → List ℕ → Lined
+wdt_line w nth line at area = read_of w nth (line_of line at) area
 
 -- what the code leaves is what the line's definition says; its watchdog is valid
-pub record Leaves (x : Lined) (old : List ℕ) (from : ℕ) (new : List ℕ) (after : List ℕ) (r : Left) : Type 0 where
-  pub watched : r.watched ≡ x.watched
+pub record Leaves (x : Lined) (old new after : List ℕ) (r : Option Watchdog) : Type 0 where
+  pub watchdog : r ≡ x.watchdog
   pub area : after ≡ x.area
-  pub puts : Puts old from new r.at x.bytes
-  pub valid : Valid r.watched.watchdog
+  pub puts : Puts old new x.bytes
+  pub valid : IfSome r Valid

@@ -1,19 +1,18 @@
 -- What is shown of a watchdog (docs/SCRIPT.md, "The watchdog"): a call's answer, and the watchdog as it stands.
-use Rattle.std.specs.Prelude.{ℕ, List, [], ◌++◌}
+use Rattle.std.specs.Prelude.{ℕ, List, [], ◌++◌, Option, Some, None}
 use Rattle.figures.specs.Figures.{text, number}
 use Rattle.page.specs.Page.{pair, flag}
 use Rattle.display.specs.Answers.{records_of}
 use Rattle.wdtcsr.specs.Wdtcsr.{is_open}
-use Rattle.oscillator.specs.declared.next.Next.{Next}
-use Rattle.oscillator.specs.declared.next.Next.TheVariants as next
+use Rattle.time.specs.declared.units.Cycle.{Cycle}
 use Rattle.oscillator.specs.declared.state.Watchdog.{Watchdog}
 use Rattle.oscillator.specs.Oscillator.{next_of}
 use Rattle.watchdog.specs.Outcome.{Told, Values, refused, none, byte, event, paused}
 
 -- "next=N": "the next time-out, or none"
-unfoldable pub event_of : Next → List ℕ
-event_of (next.At cycle) = text " next=" ++ number cycle.0
-event_of next.Never = text " next=none"
+unfoldable pub event_of : Option Cycle → List ℕ
+event_of (Some cycle) = text " next=" ++ number cycle.0
+event_of None = text " next=none"
 
 -- what a call leaves: its watchdog's next event, and the bytes written
 unfoldable pub left_by : Told → List ℕ

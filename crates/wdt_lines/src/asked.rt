@@ -1,92 +1,137 @@
 // What a watchdog's line asks for.
 
-ghost use Rattle.std.specs.Prelude.{◌≤◌, ◌≡◌};
-ghost use Rattle.wdt_lines.specs.Asked.{arguments_of, value_of, cycle_of, size_of, call_of, asked_of};
+ghost use Rattle.std.specs.Prelude.{◌≤◌, ◌≡◌, IfOk};
+ghost use Rattle.wdt_lines.specs.Asked.{command_of, plain_of, advance_of, write_of, alone_of, asked_of, line_of, Sized};
 
 use watchdog::calls::Call;
-use words::{Cursor, Taken, decimal, exactly, hexadecimal, low8, none};
+use words::{Unreadable, decimal, exactly, find, hexadecimal, low8, place, skip};
 
-// A line by its name's place among the commands, its call with its cycle, the area's size, and why the line cannot be read.
+// The commands: the calls, then `new` and `state`.
+#[derive(Clone, Copy, PartialEq, Eq)]
+enum Command {
+    Advance,
+    Write,
+    Next,
+    Wdr,
+    Serve,
+    Read,
+    New,
+    State,
+}
+
+// A new watchdog, the watchdog as it stands, or a call with its cycle and the area's size.
 #[derive(Clone, Copy)]
-pub struct Asked {
-    pub name: usize,
-    pub call: Call,
-    pub cycle: u64,
-    pub size: usize,
-    pub why: u8,
+pub enum Asked {
+    New,
+    State,
+    Call { call: Call, cycle: u64, size: usize },
 }
 
-// How many words a line has.
-fn arguments(name: usize) -> usize
-    ensures { result ≡ arguments_of name }
+// The command of a place among the names.
+#[tactic(auto, unfolding(crate::specs::Asked::command_of))]
+fn command_at(place: usize) -> Command
+    ensures { result ≡ command_of place }
 {
-    match name {
-        0..=1 => 2,
-        2..=5 => 1,
-        _ => 0,
+    match place {
+        0 => Command::Advance,
+        1 => Command::Write,
+        2 => Command::Next,
+        3 => Command::Wdr,
+        4 => Command::Serve,
+        5 => Command::Read,
+        6 => Command::New,
+        _ => Command::State,
     }
 }
 
-// The value of a write.
-fn value(line: &[u8], c: Cursor, name: usize) -> Taken
-    ensures { result ≡ value_of line.now c name }
+// A call that has a cycle alone.
+#[tactic(auto, unfolding(crate::specs::Asked::plain_of, words::specs::Words::and_then))]
+fn plain(line: &[u8], at: usize, call: Call) -> Result<Asked, Unreadable>
+    ensures { (IfOk result Sized) × (result ≡ plain_of line.now at call) }
 {
-    match name {
-        1 => hexadecimal(line, c, 0xff),
-        _ => none(c),
-    }
+    exactly(line, at, 1)?;
+    let cycle = decimal(line, at, u64::MAX)?;
+    Ok(Asked::Call {
+        call,
+        cycle: cycle.value,
+        size: 0,
+    })
 }
 
-// The cycle of a call.
-fn cycle(line: &[u8], c: Cursor, name: usize) -> Taken
-    ensures { result ≡ cycle_of line.now c name }
+// An advance, the one call that has an area.
+#[tactic(auto, unfolding(crate::specs::Asked::advance_of, words::specs::Words::and_then))]
+fn advance(line: &[u8], at: usize) -> Result<Asked, Unreadable>
+    ensures { (IfOk result Sized) × (result ≡ advance_of line.now at) }
 {
-    match name {
-        0..=5 => decimal(line, c, u64::MAX),
-        _ => none(c),
-    }
+    exactly(line, at, 2)?;
+    let cycle = decimal(line, at, u64::MAX)?;
+    let size = decimal(line, cycle.end, 4096)?;
+    Ok(Asked::Call {
+        call: Call::Advance,
+        cycle: cycle.value,
+        size: size.value as usize,
+    })
 }
 
-// The area's size, of an advance.
-fn size(line: &[u8], c: Cursor, name: usize) -> Taken
-    ensures { (result.value ≤ 4096) × (result ≡ size_of line.now c name) }
+// A write of WDTCSR.
+#[tactic(auto, unfolding(crate::specs::Asked::write_of, words::specs::Words::and_then))]
+fn write(line: &[u8], at: usize) -> Result<Asked, Unreadable>
+    ensures { (IfOk result Sized) × (result ≡ write_of line.now at) }
 {
-    match name {
-        0 => decimal(line, c, 4096),
-        _ => none(c),
-    }
+    exactly(line, at, 2)?;
+    let value = hexadecimal(line, at, 0xff)?;
+    let cycle = decimal(line, value.end, u64::MAX)?;
+    Ok(Asked::Call {
+        call: Call::Write(low8(value.value)),
+        cycle: cycle.value,
+        size: 0,
+    })
 }
 
-// The call of a name, by its place among the commands.
-fn call_of(name: usize, value: u64) -> Call
-    ensures { result ≡ call_of name value }
+// A command without words.
+#[tactic(auto, unfolding(crate::specs::Asked::alone_of, words::specs::Words::and_then))]
+fn alone(line: &[u8], at: usize, asked: Asked) -> Result<Asked, Unreadable>
+    requires { Sized asked }
+    ensures { (IfOk result Sized) × (result ≡ alone_of line.now at asked) }
 {
-    match name {
-        0 => Call::Advance,
-        1 => Call::Write(low8(value)),
-        2 => Call::Next,
-        3 => Call::Wdr,
-        4 => Call::Serve,
-        _ => Call::Read,
+    exactly(line, at, 0)?;
+    Ok(asked)
+}
+
+// What follows a command.
+#[tactic(auto, unfolding(crate::specs::Asked::asked_of))]
+fn following(line: &[u8], at: usize, command: Command) -> Result<Asked, Unreadable>
+    ensures { (IfOk result Sized) × (result ≡ asked_of line.now at command) }
+{
+    match command {
+        Command::Advance => advance(line, at),
+        Command::Write => write(line, at),
+        Command::Next => plain(line, at, Call::Next),
+        Command::Wdr => plain(line, at, Call::Wdr),
+        Command::Serve => plain(line, at, Call::Serve),
+        Command::Read => plain(line, at, Call::Read),
+        Command::New => alone(line, at, Asked::New),
+        Command::State => alone(line, at, Asked::State),
     }
 }
 
 impl Asked {
-    // What follows the name.
-    pub fn of(line: &[u8], at: usize, name: usize) -> Asked
-        ensures { (result.size ≤ 4096) × (result ≡ asked_of line.now at name) }
+    // What a line asks for, from the place after `wdt`.
+    #[tactic(auto, unfolding(crate::specs::Asked::line_of, crate::specs::Asked::named_of, figures::specs::Figures::codes))]
+    pub fn of(line: &[u8], at: usize) -> Result<Asked, Unreadable>
+        ensures { (IfOk result Sized) × (result ≡ line_of line.now at) }
     {
-        let start = exactly(line, at, arguments(name));
-        let value = value(line, start, name);
-        let cycle = cycle(line, value.next, name);
-        let size = size(line, cycle.next, name);
-        let end = size.next;
-        Asked {
-            name,
-            call: call_of(name, value.value),
-            cycle: cycle.value,
-            size: size.value as usize,
-            why: end.why,
+        let start = skip(line, at);
+        if start == line.len() {
+            return Err(Unreadable::MissingWord);
+        }
+        let end = find(line, start, b' ');
+        match place(
+            b"advance write next wdr serve read new state",
+            &line[start..end],
+        ) {
+            Some(n) => following(line, end, command_at(n)),
+            None => Err(Unreadable::UnknownCommand),
         }
     }
 }

@@ -1,138 +1,114 @@
 // The watchdog that lines make, call and show.
 
-ghost use Rattle.std.specs.Prelude.{◌≤◌, length};
+ghost use Rattle.std.specs.Prelude.{◌≤◌, ◌≡◌, ℕ, List, length, Some, IfSome};
 ghost use Rattle.oscillator.specs.State.{Valid};
 ghost use Rattle.page.specs.Page.{Puts};
 ghost use Rattle.watchdog.specs.Outcome.{heard};
-ghost use Rattle.wdt_lines.specs.Called.{Leaves, told_of, called_of, ready_of, heard_of, wdt_line};
+ghost use Rattle.wdt_lines.specs.Asked.{Sized};
+ghost use Rattle.wdt_lines.specs.Called.{Leaves, told_of, called_of, heard_of, wdt_line};
 
 use crate::asked::Asked;
 use crate::shown::{answer, state};
 use oscillator::state::Watchdog;
-use page::{Page, number, text, unreadable};
+use page::Page;
 use room::{changed, fill};
 use time::units::Cycle;
-use watchdog::outcome::Outcome;
-use words::{FINE, MISSING_WORD, UNKNOWN_COMMAND, find, place, skip};
+use watchdog::calls::Call;
+use watchdog::outcome::{Outcome, Refusal};
 
-// The watchdog counts once a line made one.
-#[derive(Clone, Copy)]
-pub struct Watched {
-    pub ready: bool,
-    pub watchdog: Watchdog,
+// The bytes that a call wrote.
+#[tactic(auto, unfolding(watchdog::specs::Outcome::heard))]
+fn written(w: Watchdog, r: Result<Outcome, Refusal>) -> usize
+    ensures { (area : List ℕ) → result ≡ (heard w r area).written }
+{
+    match r {
+        Ok(o) => o.written,
+        Err(_) => 0,
+    }
 }
 
-// The watchdog after a line, and the place after what was put on the page.
-#[derive(Clone, Copy)]
-pub struct Left {
-    pub watched: Watched,
-    pub at: usize,
+// The watchdog that a call leaves: the caller's own where it is refused.
+#[tactic(auto, unfolding(watchdog::specs::Outcome::heard))]
+fn left(w: Watchdog, r: Result<Outcome, Refusal>) -> Watchdog
+    ensures { (area : List ℕ) → result ≡ (heard w r area).watchdog }
+{
+    match r {
+        Ok(o) => o.watchdog,
+        Err(_) => w,
+    }
 }
 
 // Puts a call's answer, or where the area changed beyond what was written.
-fn told(page: &mut Page, from: usize, o: Outcome, area: &[u8]) -> usize
-    requires { Valid o.watchdog }
-    ensures { Puts page.old from page.new result (told_of (heard o area.now)) }
+fn told(page: &mut Page, w: Watchdog, r: Result<Outcome, Refusal>, area: &[u8])
+    requires { Valid (heard w r area.now).watchdog }
+    ensures { Puts page.old page.new (told_of (heard w r area.now)) }
 {
-    let end = changed(area, o.written);
+    let end = changed(area, written(w, r));
     if end < area.len() {
-        return number(page, from, b"area changed at ", end as u64);
+        page.number(b"area changed at ", end as u64);
+    } else {
+        answer(page, w, r, area);
     }
-    answer(page, from, o, area)
 }
 
-// Calls the watchdog on an area, filled, and puts the answer.
-fn called(w: Watched, asked: Asked, page: &mut Page, from: usize, area: &mut [u8]) -> Left
-    requires { Valid w.watchdog }
-    ensures { Leaves (called_of w asked (length area.old)) page.old from page.new area.new result }
+// Calls the watchdog on an area, filled, and puts the answer; yields the watchdog that the call leaves.
+fn called(w: Watchdog, call: Call, cycle: u64, page: &mut Page, area: &mut [u8]) -> Watchdog
+    requires { Valid w }
+    ensures { Leaves (called_of w call cycle (length area.old)) page.old page.new area.new (Some result) }
 {
     fill(area);
-    let call = asked.call;
-    let o = watchdog::call(w.watchdog, call, Cycle(asked.cycle), area);
-    let watchdog = o.watchdog;
-    let at = told(page, from, o, area);
-    let watched = Watched {
-        ready: w.ready,
-        watchdog,
-    };
-    Left { watched, at }
+    let r = watchdog::call(w, call, Cycle(cycle), area);
+    told(page, w, r, area);
+    left(w, r)
 }
 
-// Shows or calls a watchdog that there is; a call has as many bytes of the area as it asks for.
-fn worked(w: Watched, asked: Asked, page: &mut Page, from: usize, area: &mut [u8]) -> Left
-    requires { (Valid w.watchdog) × (asked.size ≤ length area.old) }
-    ensures { Leaves (ready_of w asked area.old) page.old from page.new area.new result }
+// Answers what a line asks for; a call has as many bytes of the area as it asks for.
+fn heard(w: Option<Watchdog>, asked: Asked, page: &mut Page, area: &mut [u8]) -> Option<Watchdog>
+    requires { (IfSome w Valid) × (Sized asked) × (4096 ≤ length area.old) }
+    ensures { Leaves (heard_of w asked area.old) page.old page.new area.new result }
 {
-    if asked.name == 7 {
-        return Left {
-            watched: w,
-            at: state(page, from, w.watchdog),
-        };
-    }
-    let size = asked.size;
-    called(w, asked, page, from, &mut area[0..size])
-}
-
-// Answers what a line asks for.
-fn heard(w: Watched, nth: u64, asked: Asked, page: &mut Page, from: usize, area: &mut [u8]) -> Left
-    requires { (Valid w.watchdog) × (asked.size ≤ length area.old) }
-    ensures { Leaves (heard_of w nth asked area.old) page.old from page.new area.new result }
-{
-    if asked.why != FINE {
-        return Left {
-            watched: w,
-            at: unreadable(page, from, nth, asked.why),
-        };
-    }
-    if asked.name == 6 {
-        let watched = Watched {
-            ready: true,
-            watchdog: Watchdog::new(),
-        };
-        return Left {
-            watched,
-            at: text(page, from, b"ok config"),
-        };
-    }
-    if w.ready {
-        return worked(w, asked, page, from, area);
-    }
-    Left {
-        watched: w,
-        at: text(page, from, b"no timer"),
+    match asked {
+        Asked::New => {
+            page.text(b"ok config");
+            Some(Watchdog::new())
+        }
+        Asked::State => match w {
+            Some(watchdog) => {
+                state(page, watchdog);
+                w
+            }
+            None => {
+                page.text(b"no timer");
+                None
+            }
+        },
+        Asked::Call { call, cycle, size } => match w {
+            Some(watchdog) => Some(called(watchdog, call, cycle, page, &mut area[..size])),
+            None => {
+                page.text(b"no timer");
+                None
+            }
+        },
     }
 }
 
 // Answers a wdt line from the place after its name.
 pub fn wdt_line(
-    w: Watched,
+    w: Option<Watchdog>,
     page: &mut Page,
-    from: usize,
     nth: u64,
     line: &[u8],
     at: usize,
     area: &mut [u8],
-) -> Left
-    requires { (Valid w.watchdog) × (4096 ≤ length area.old) }
-    ensures { Leaves (wdt_line w nth line.now at area.old) page.old from page.new area.new result }
+) -> Option<Watchdog>
+    requires { (IfSome w Valid) × (4096 ≤ length area.old) }
+    ensures { Leaves (wdt_line w nth line.now at area.old) page.old page.new area.new result }
 {
-    let start = skip(line, at);
-    if start == line.len() {
-        return Left {
-            watched: w,
-            at: unreadable(page, from, nth, MISSING_WORD),
-        };
-    }
-    let end = find(line, start, b' ');
-    let name = place(
-        b"advance write next wdr serve read new state",
-        &line[start..end],
-    );
-    if name < 8 {
-        return heard(w, nth, Asked::of(line, end, name), page, from, area);
-    }
-    Left {
-        watched: w,
-        at: unreadable(page, from, nth, UNKNOWN_COMMAND),
+    match Asked::of(line, at) {
+        Ok(asked) => heard(w, asked, page, area),
+        Err(why) => {
+            page.unreadable(nth, why);
+            w
+        }
     }
 }

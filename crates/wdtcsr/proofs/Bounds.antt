@@ -1,47 +1,25 @@
 -- The periods, and what bounds the count.
-use Prim.Native.Nat.{ℕ, zero, suc, ◌≤◌, ◌<◌, ◌^◌}
-use native.Mathlib.Omega.{arith}
-use mathlib.Core.Path.{◌≡◌, refl}
-use mathlib.Core.Bool.{true}
-use mathlib.Core.List.{List, [], ◌∷◌}
-use lib.ListN.{get_or}
+use Rattle.std.proofs.Common.{ℕ, ◌+◌, ◌≤◌, ◌<◌, ◌^◌, ◌≡◌, refl, true, arith}
+use Rattle.std.proofs.Math.Pow.{pow_mono}
 use Rattle.wdtcsr.specs.declared.state.Moving.{Moving}
 use Rattle.wdtcsr.specs.State.{running, Sound}
-use Rattle.wdtcsr.specs.Timeouts.{period_of, resets, timed_out, linear, gap_of, is_quiet}
+use Rattle.wdtcsr.specs.Timeouts.{period_of, resets, timed_out, gap_of, is_quiet}
 use Rattle.wdtcsr.proofs.Ticks.{cond-case, quiet-gap}
 
--- the table of the code
-abbrev pub periods : List ℕ
-periods = 2048 ∷ 4096 ∷ 8192 ∷ 16384 ∷ 32768 ∷ 65536 ∷ 131072 ∷ 262144 ∷ 524288 ∷ 1048576 ∷ []
-
-pub period-at : (p : ℕ) → p < 10 → (get_or periods p 0 ≡ period_of p) × (period_of p ≤ 2 ^ 20)
+pub period-upto : (p : ℕ) → p < 10 → period_of p ≤ 2 ^ 20
 unfolding period_of
-period-at zero h = (refl, omega arith)
-period-at (suc zero) h = (refl, omega arith)
-period-at (suc (suc zero)) h = (refl, omega arith)
-period-at (suc (suc (suc zero))) h = (refl, omega arith)
-period-at (suc (suc (suc (suc zero)))) h = (refl, omega arith)
-period-at (suc (suc (suc (suc (suc zero))))) h = (refl, omega arith)
-period-at (suc (suc (suc (suc (suc (suc zero)))))) h = (refl, omega arith)
-period-at (suc (suc (suc (suc (suc (suc (suc zero))))))) h = (refl, omega arith)
-period-at (suc (suc (suc (suc (suc (suc (suc (suc zero)))))))) h = (refl, omega arith)
-period-at (suc (suc (suc (suc (suc (suc (suc (suc (suc zero))))))))) h = (refl, omega arith)
-period-at (suc (suc (suc (suc (suc (suc (suc (suc (suc (suc p)))))))))) h = absurd (omega arith)
+period-upto p h = let e = pow_mono {i = p} {j = 9} (omega arith) in omega arith
 
 pub gap-small : (m : Moving) → Sound m → gap_of m < 2 ^ 20
 unfolding gap_of
-gap-small m y = let h = (period-at m.control.wdp y.wdp).1 in omega arith
+gap-small m y = let h = period-upto m.control.wdp y.wdp in omega arith
 
--- ---- what the oscillator keeps
-pub linear-sound : (n : ℕ) (m : Moving) → Sound m → is_quiet n m ≡ true → Sound (linear n m)
-unfolding linear gap_of
-linear-sound n m y h =
-    record {
-      count = cond-case (λ (k : ℕ). k < 2 ^ 20) (running m) (λ r. let g = quiet-gap n m r h in let p = (period-at m.control.wdp y.wdp).1 in let c = y.count in omega arith) (λ r. y.count);
-      wdp = y.wdp;
-      stopped = λ r. rw r (y.stopped r);
-    }
+-- ticks that only count keep the count small
+pub count_small : (n : ℕ) (m : Moving) → Sound m → running m ≡ true → is_quiet n m ≡ true → m.count + n < 2 ^ 20
+unfolding gap_of
+count_small n m y r h = let g = quiet-gap n m r h in let p = period-upto m.control.wdp y.wdp in let c = y.count in omega arith
 
+-- a time-out leaves what the oscillator keeps
 pub timed-out-sound : (m : Moving) → Sound m → Sound (timed_out m)
 unfolding timed_out
 timed-out-sound m y =

@@ -7,7 +7,7 @@ use time::units::Cycle;
 
 // WDTCSR without WDCE: the flag, the interrupt's and the reset's enable, and the prescaler, 0 to 9.
 #[repr(C)]
-#[derive(Clone, Copy)]
+#[derive(Clone, Copy, Default)]
 pub struct Control {
     pub wdif: bool,
     pub wdie: bool,
@@ -15,7 +15,8 @@ pub struct Control {
     pub wdp: u8,
 }
 
-// The timed sequence: whether the last write was of WDCE and WDE together, and its cycle.
+// The timed sequence: whether the last write was of WDCE and WDE together, and its cycle. A flag with a cycle, and no
+// `Option`, since C holds it.
 #[repr(C)]
 #[derive(Clone, Copy)]
 pub struct Window {

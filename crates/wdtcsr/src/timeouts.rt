@@ -12,44 +12,34 @@ impl Control {
     fn resets(self) -> bool
         ensures { result ≡ resets self }
     {
-        self.wde & (self.wdif | !self.wdie)
+        self.wde && (self.wdif || !self.wdie)
     }
 }
 
 impl Moving {
-    const PERIODS: [u32; 10] = [
-        2048, 4096, 8192, 16384, 32768, 65536, 131072, 262144, 524288, 1048576,
-    ];
-
     // Does the oscillator count.
     pub fn running(self) -> bool
         ensures { result ≡ running self }
     {
-        let control = self.control;
-        control.wde | control.wdie
+        self.control.wde || self.control.wdie
     }
 
     // The ticks from one time-out to the next.
+    #[tactic(auto, unfolding(crate::specs::Timeouts::period_of))]
     fn period(self) -> u32
         requires { self.control.wdp < 10 }
         ensures { result ≡ period_of self.control.wdp }
     {
-        let control = self.control;
-        let i = control.wdp as usize;
-        Self::PERIODS[i]
+        2048 << self.control.wdp
     }
 
     // The ticks that only count before the next time-out's.
+    #[tactic(auto, unfolding(crate::specs::Timeouts::gap_of))]
     pub fn gap(self) -> u32
         requires { self.control.wdp < 10 }
         ensures { result ≡ gap_of self }
     {
-        let period = self.period();
-        if self.count < period {
-            period - self.count - 1
-        } else {
-            0
-        }
+        self.period().saturating_sub(self.count).saturating_sub(1)
     }
 
     // Is there no time-out within so many ticks.
@@ -57,34 +47,34 @@ impl Moving {
         requires { self.control.wdp < 10 }
         ensures { result ≡ is_quiet n self }
     {
-        !self.running() | (n <= (self.gap() as u64))
+        !self.running() || n <= u64::from(self.gap())
     }
 
     // So many ticks in one step.
+    #[tactic(auto, using(crate::proofs::Bounds::count_small), unfolding(crate::specs::Timeouts::linear))]
     pub fn skip(self, n: u64) -> Moving
         requires { (Sound self) × (is_quiet n self ≡ true) }
         ensures { result ≡ linear n self }
     {
         if self.running() {
-            let mut m = self;
-            m.count = self.count + (n as u32);
-            m
+            Moving {
+                count: self.count + n as u32,
+                ..self
+            }
         } else {
             self
         }
     }
 
     // What a time-out leaves.
+    #[tactic(auto, unfolding(crate::specs::Timeouts::timed_out))]
     pub fn timed_out(self) -> Moving
         ensures { result ≡ timed_out self }
     {
-        let control = self.control;
-        if control.resets() {
+        if self.control.resets() {
             let control = Control {
-                wdif: false,
-                wdie: false,
                 wde: true,
-                wdp: 0,
+                ..Control::default()
             };
             Moving {
                 count: 0,
@@ -92,21 +82,24 @@ impl Moving {
                 window: Window::shut(),
             }
         } else {
-            let mut control = control;
-            control.wdif = true;
-            let mut m = self;
-            m.count = 0;
-            m.control = control;
-            m
+            let control = Control {
+                wdif: true,
+                ..self.control
+            };
+            Moving {
+                count: 0,
+                control,
+                ..self
+            }
         }
     }
 
     // A time-out's record.
+    #[tactic(auto, unfolding(crate::specs::Timeouts::timeout))]
     pub fn timeout(self) -> Entry
         ensures { result ≡ timeout self }
     {
-        let control = self.control;
-        let body = if control.resets() { 2 } else { 1 };
+        let body = if self.control.resets() { 2 } else { 1 };
         Entry { kind: 3, body }
     }
 }

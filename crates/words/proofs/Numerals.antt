@@ -1,11 +1,13 @@
 -- Laws of digits and of the numbers that they make.
-use Rattle.std.proofs.Common.{◌≡◌, ℕ, ◌+◌, ◌*◌, ◌<◌, ◌≤◌, Bool, true, false, cond, ◌&&◌, eqb, ltb, leb, List, [], ◌∷◌, length, get_or, take, drop, sym, refl, ap, ◌∙◌, le-mul_of_pos_right, add-one, arith, take-append-drop, take-suc, le-ltb, lt-ltb, eq-eqb, ne_eqb, le-leb, leb-false, leb-true}
+use Rattle.std.proofs.Common.{◌≡◌, ℕ, ◌+◌, ◌-◌, ◌*◌, ◌<◌, ◌≤◌, Bool, true, false, cond, ◌&&◌, ltb, leb, List, [], ◌∷◌, length, get_or, take, drop, sym, refl, ap, ◌∙◌, le-mul_of_pos_right, add-one, arith, take-append-drop, take-suc, le-leb, leb-false, leb-true, ltb-true, Option, Some, None, is_some, unwrap_or, ok_or, Result, Ok, Err, IfOk}
+use mathlib.Core.Bool.{false≢true}
 use mathlib.Core.List.{foldl, foldl-append}
 use borrow.Author.Tests.{lt-leb}
-use Rattle.words.specs.declared.Cursor.{Cursor}
-use Rattle.words.specs.declared.Read.{Read}
-use Rattle.words.specs.Words.{find_of, skip_of}
-use Rattle.words.specs.Numbers.{among, digit_of, all_digits, extended, well_formed, unread_of, limited, longer_of, numeral_of, between, taken_of, nothing_of, next_of}
+use Rattle.words.specs.declared.Unreadable.{Unreadable}
+use Rattle.words.specs.declared.Unreadable.TheVariants as unreadable
+use Rattle.words.specs.declared.Taken.{Taken}
+use Rattle.words.specs.Words.{find_of, skip_of, and_then}
+use Rattle.words.specs.Numbers.{among, below, digit_of, all_digits, extended, well_formed, limited, longer_of, numeral_of, between, next_of}
 
 -- ---- a loop over a line
 
@@ -27,55 +29,55 @@ fold-failed p (b ∷ bs) = fold-failed p bs
 pub among_in : (low high b : ℕ) → low ≤ b → b ≤ high → among low high b ≡ true
 among_in low high b l h = rw (le-leb low b l, le-leb b high h)
 
-pub among_below : (low high b : ℕ) → b < low → among low high b ≡ false
-among_below low high b l = rw (lt-leb low b l)
-
 pub among-above : (low high b : ℕ) → low ≤ b → high < b → among low high b ≡ false
 among-above low high b l h = rw (le-leb low b l, lt-leb b high h)
 
--- one digit more
-pub extended-more : (radix n : ℕ) (l : List ℕ) (i : ℕ) → i < length l → extended radix n (take (i + 1) l) ≡ extended radix n (take i l) * radix + digit_of (get_or l i 0)
-unfolding extended
-extended-more radix n l i h = fold_more (λ (m b : ℕ). m * radix + digit_of b) n l i h
+below-less : (radix n d : ℕ) → below radix n ≡ Some d → d < radix
+below-less radix n d h = go (ltb n radix) refl h
+  where
+    go : (t : Bool) → ltb n radix ≡ t → ◌≡◌ {A = Option ℕ} (cond t (Some n) None) (Some d) → d < radix
+    go true e q = rw (← ap (λ (o : Option ℕ). unwrap_or o 0) q) (ltb-true n radix e)
+    go false e q = absurd (false≢true (ap is_some q))
 
-pub digits_more : (radix : ℕ) (l : List ℕ) (i : ℕ) → i < length l → all_digits radix (take i l) ≡ true → digit_of (get_or l i 0) < radix → all_digits radix (take (i + 1) l) ≡ true
+-- a digit is below its radix
+pub digit_less : (radix b d : ℕ) → digit_of radix b ≡ Some d → d < radix
+unfolding digit_of
+digit_less radix b d h = go (among 48 57 b) (among 65 70 b) (among 97 102 b) h
+  where
+    go : (t u v : Bool) → ◌≡◌ {A = Option ℕ} (cond t (below radix (b - 48)) (cond u (below radix (b - 65 + 10)) (cond v (below radix (b - 97 + 10)) None))) (Some d) → d < radix
+    go true u v q = below-less radix (b - 48) d q
+    go false true v q = below-less radix (b - 65 + 10) d q
+    go false false true q = below-less radix (b - 97 + 10) d q
+    go false false false q = absurd (false≢true (ap is_some q))
+
+-- one digit more
+pub extended_more : (radix n d : ℕ) (l : List ℕ) (i : ℕ) → i < length l → digit_of radix (get_or l i 0) ≡ Some d → extended radix n (take (i + 1) l) ≡ extended radix n (take i l) * radix + d
+unfolding extended
+extended_more radix n d l i h e = fold_more (λ (m b : ℕ). m * radix + unwrap_or (digit_of radix b) 0) n l i h ∙ rw e
+
+pub digits_more : (radix d : ℕ) (l : List ℕ) (i : ℕ) → i < length l → all_digits radix (take i l) ≡ true → digit_of radix (get_or l i 0) ≡ Some d → all_digits radix (take (i + 1) l) ≡ true
 unfolding all_digits
-digits_more radix l i h t d = fold_more (λ (ok : Bool) (b : ℕ). ok && ltb (digit_of b) radix) true l i h ∙ rw (t, lt-ltb (digit_of (get_or l i 0)) radix d)
+digits_more radix d l i h t e = fold_more (λ (ok : Bool) (b : ℕ). ok && is_some (digit_of radix b)) true l i h ∙ rw (t, e)
 
 -- a byte that is none
-pub digits-failed : (radix : ℕ) (l : List ℕ) (i : ℕ) → i < length l → all_digits radix (take i l) ≡ true → radix ≤ digit_of (get_or l i 0) → all_digits radix l ≡ false
+pub digits_failed : (radix : ℕ) (l : List ℕ) (i : ℕ) → i < length l → all_digits radix (take i l) ≡ true → digit_of radix (get_or l i 0) ≡ None → all_digits radix l ≡ false
 unfolding all_digits
-digits-failed radix l i h t d =
-    let f : Bool → ℕ → Bool = λ ok b. ok && ltb (digit_of b) radix in
-    fold-rest f true l (i + 1)
-    ∙ rw (fold_more f true l i h, t, le-ltb (digit_of (get_or l i 0)) radix d) (fold-failed (λ (b : ℕ). ltb (digit_of b) radix) (drop (i + 1) l))
+digits_failed radix l i h t e =
+    let f : Bool → ℕ → Bool = λ ok b. ok && is_some (digit_of radix b) in
+    fold-rest f true l (i + 1) ∙ rw (fold_more f true l i h, t, e) (fold-failed (λ (b : ℕ). is_some (digit_of radix b)) (drop (i + 1) l))
 
 -- ---- numbers
 
--- one digit more, where nothing can be read
-pub longer-stopped : (r : Read) (d radix most : ℕ) → (r.why ≡ 0 → ⊥) → longer_of r d radix most ≡ unread_of 7
-unfolding longer_of
-longer-stopped r d radix most h = rw (ne_eqb r.why 0 h)
-
--- where it makes too large a number
-pub longer-over : (r : Read) (d radix most : ℕ) → r.why ≡ 0 → most < r.value * radix + d → longer_of r d radix most ≡ unread_of 7
-unfolding longer_of limited
-longer-over r d radix most e h = rw (eq-eqb r.why 0 e, lt-leb (r.value * radix + d) most h)
-
--- where it does not
-pub longer-fits : (r : Read) (d radix most : ℕ) → r.why ≡ 0 → r.value * radix + d ≤ most → longer_of r d radix most ≡ record { value = r.value * radix + d; why = 0 }
-unfolding longer_of limited
-longer-fits r d radix most e h = rw (eq-eqb r.why 0 e, le-leb (r.value * radix + d) most h)
-
 -- a number that is too large stays so
-pub longer-limited : (most v d radix : ℕ) → 0 < radix → longer_of (limited most v) d radix most ≡ limited most (v * radix + d)
+pub longer_limited : (most v d radix : ℕ) → d < radix → longer_of (limited most v) d radix most ≡ limited most (v * radix + d)
 unfolding longer_of limited
-longer-limited most v d radix h = go (leb v most) refl
+longer_limited most v d radix h = go (leb v most) refl
   where
     go : (t : Bool) → leb v most ≡ t → longer_of (limited most v) d radix most ≡ limited most (v * radix + d)
     go true e = rw e
     go false e =
-        let m = le-mul_of_pos_right v h in
+        let p : 0 < radix = omega arith in
+        let m = le-mul_of_pos_right v p in
         let g = leb-false v most e in
         rw (e, lt-leb (v * radix + d) most (omega arith))
 
@@ -86,59 +88,48 @@ formed radix [] h = absurd (omega arith)
 formed radix (b ∷ bs) h = refl
 
 -- an empty word
-pub numeral-empty : (l : List ℕ) (radix most : ℕ) → length l ≡ 0 → numeral_of l radix most ≡ unread_of 6
+pub numeral_empty : (l : List ℕ) (radix most : ℕ) → length l ≡ 0 → numeral_of l radix most ≡ Err unreadable.Malformed
 unfolding numeral_of well_formed
-numeral-empty [] radix most h = refl
-numeral-empty (b ∷ bs) radix most h = absurd (omega arith)
+numeral_empty [] radix most h = refl
+numeral_empty (b ∷ bs) radix most h = absurd (omega arith)
 
 -- a word with a byte that is no digit
-pub numeral-malformed : (l : List ℕ) (radix most : ℕ) → 0 < length l → all_digits radix l ≡ false → numeral_of l radix most ≡ unread_of 6
+pub numeral_malformed : (l : List ℕ) (radix most : ℕ) → 0 < length l → all_digits radix l ≡ false → numeral_of l radix most ≡ Err unreadable.Malformed
 unfolding numeral_of
-numeral-malformed l radix most h t = rw (formed radix l h, t)
+numeral_malformed l radix most h t = rw (formed radix l h, t)
 
 -- a word of digits
-pub numeral-digits : (l : List ℕ) (radix most : ℕ) → 0 < length l → all_digits radix l ≡ true → numeral_of l radix most ≡ limited most (extended radix 0 l)
+pub numeral_digits : (l : List ℕ) (radix most : ℕ) → 0 < length l → all_digits radix l ≡ true → numeral_of l radix most ≡ ok_or (limited most (extended radix 0 l)) unreadable.TooLarge
 unfolding numeral_of
-numeral-digits l radix most h t = rw (formed radix l h, t)
+numeral_digits l radix most h t = rw (formed radix l h, t)
 
 -- what can be read is at most the most
-pub limited-most : (most n : ℕ) → (limited most n).value ≤ most
-unfolding limited
-limited-most most n = go (leb n most) refl
+pub numeral_most : (l : List ℕ) (radix most : ℕ) → IfOk (numeral_of l radix most) (λ n. n ≤ most)
+unfolding numeral_of limited
+numeral_most l radix most = go (well_formed radix l) (leb (extended radix 0 l) most) refl
   where
-    go : (t : Bool) → leb n most ≡ t → (limited most n).value ≤ most
-    go true e = rw e (leb-true n most e)
-    go false e = rw e (omega arith)
-
-pub numeral-most : (l : List ℕ) (radix most : ℕ) → (numeral_of l radix most).value ≤ most
-unfolding numeral_of
-numeral-most l radix most = go (well_formed radix l)
-  where
-    go : (t : Bool) → (cond t (limited most (extended radix 0 l)) (unread_of 6)).value ≤ most
-    go true = limited-most most (extended radix 0 l)
-    go false = omega arith
+    go : (t u : Bool) → leb (extended radix 0 l) most ≡ u
+        → IfOk {E = Unreadable} (cond t (ok_or (cond u (Some (extended radix 0 l)) None) unreadable.TooLarge) (Err unreadable.Malformed)) (λ n. n ≤ most)
+    go true true e = leb-true (extended radix 0 l) most e
+    go true false e = tt
+    go false u e = tt
 
 -- ---- the next number of a line
 
--- where reading stopped
-pub next-stopped : (text : List ℕ) (c : Cursor) (radix most : ℕ) → (c.why ≡ 0 → ⊥) → next_of text c radix most ≡ nothing_of c
-unfolding next_of
-next-stopped text c radix most h = rw (ne_eqb c.why 0 h)
-
--- where it goes on
-pub next-read : (text : List ℕ) (c : Cursor) (radix most start end : ℕ) (r : Read) → c.why ≡ 0 → start ≡ skip_of text c.at → end ≡ find_of text start 32
-    → r ≡ numeral_of (between text start end) radix most → next_of text c radix most ≡ taken_of r end
-unfolding next_of
-next-read text c radix most start end r h s e n = rw (eq-eqb c.why 0 h, ← s, ← e, ← n)
+-- what holds of each value that follows holds of what follows
+pub and_then-ok : {A B E : Type 0} (P : B → Type 0) (r : Result A E) (f : A → Result B E) → ((x : A) → r ≡ Ok x → IfOk (f x) P) → IfOk (and_then r f) P
+unfolding and_then
+and_then-ok P (Ok x) f h = h x refl
+and_then-ok P (Err e) f h = tt
 
 -- it is at most the most
-pub next-most : (text : List ℕ) (c : Cursor) (radix most : ℕ) → (next_of text c radix most).value ≤ most
-unfolding next_of
-next-most text c radix most = go (eqb c.why 0)
+pub next-most : (text : List ℕ) (at radix most : ℕ) → IfOk (next_of text at radix most) (λ t. t.value ≤ most)
+unfolding next_of and_then
+next-most text at radix most = go (numeral_of word radix most) (numeral_most word radix most)
   where
-    start : ℕ
-    start = skip_of text c.at
+    word : List ℕ
+    word = between text (skip_of text at) (find_of text (skip_of text at) 32)
 
-    go : (t : Bool) → (cond t (taken_of (numeral_of (between text start (find_of text start 32)) radix most) (find_of text start 32)) (nothing_of c)).value ≤ most
-    go true = numeral-most (between text start (find_of text start 32)) radix most
-    go false = omega arith
+    go : (r : Result ℕ Unreadable) → IfOk r (λ n. n ≤ most) → IfOk (and_then r (λ n. Ok (record { value = n; end = find_of text (skip_of text at) 32 }))) (λ (t : Taken). t.value ≤ most)
+    go (Ok n) h = h
+    go (Err e) h = tt

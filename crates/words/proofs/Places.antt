@@ -1,17 +1,17 @@
 -- Laws of the places that a test finds in a text, and of the words that stand there.
-use Rattle.std.proofs.Common.{◌≡◌, ℕ, suc, ◌+◌, ◌-◌, ◌<◌, ◌≤◌, min, Bool, true, false, cond, not, ◌&&◌, eqb, List, [], ◌∷◌, length, get_or, take, drop, sym, refl, ap, ◌∙◌, ap₂, add-one, arith, length-drop, drop_of_length-le, get_or-drop, take_all, drop-cons, drop-drop, eq-eqb, eqb-true}
+use Rattle.std.proofs.Common.{◌≡◌, ℕ, suc, ◌+◌, ◌-◌, ◌<◌, ◌≤◌, min, Bool, true, false, cond, not, eqb, List, [], ◌∷◌, length, get_or, take, drop, sym, refl, ap, ◌∙◌, add-one, arith, length-drop, drop_of_length-le, get_or-drop, take_all, drop-cons, drop-drop}
 use native.Mathlib.Decide.{dec_le}
 use borrow.Author.Tests.{not-true}
 use mathlib.Core.Bool.{beq}
 use lib.Seq.{drop-length, drop-nil}
-use Rattle.words.specs.Words.{before, first_from, sought, find_of, skip_of, words, begun, onto, same, place_in}
+use Rattle.words.specs.Words.{before, first_from, sought, find_of, skip_of, words, begun, onto}
 
 -- the test as the code has it
-pub test-sought : (t another : Bool) → not (beq t another) ≡ cond another (not t) t
-test-sought true true = refl
-test-sought true false = refl
-test-sought false true = refl
-test-sought false false = refl
+pub test_sought : (t another : Bool) → not (beq t another) ≡ cond another (not t) t
+test_sought true true = refl
+test_sought true false = refl
+test_sought false true = refl
+test_sought false false = refl
 
 module _ (p : ℕ → Bool) where
   before-within : (l : List ℕ) → before p l ≤ length l
@@ -29,19 +29,19 @@ module _ (p : ℕ → Bool) where
   first-within text from = (omega arith, omega arith)
 
   -- where the text ends
-  pub first-none : (text : List ℕ) (i : ℕ) → length text ≤ i → first_from p text i ≡ length text
+  pub first_none : (text : List ℕ) (i : ℕ) → length text ≤ i → first_from p text i ≡ length text
   unfolding first_from
-  first-none text i h = omega arith
+  first_none text i h = omega arith
 
   -- at a byte that passes
-  pub first-here : (text : List ℕ) (i : ℕ) → i < length text → p (get_or text i 0) ≡ true → first_from p text i ≡ i
+  pub first_here : (text : List ℕ) (i : ℕ) → i < length text → p (get_or text i 0) ≡ true → first_from p text i ≡ i
   unfolding first_from before
-  first-here text i h t = rw (drop-cons text i 0 h, t) (omega arith)
+  first_here text i h t = rw (drop-cons text i 0 h, t) (omega arith)
 
   -- after one that does not
-  pub first-later : (text : List ℕ) (i : ℕ) → i < length text → p (get_or text i 0) ≡ false → first_from p text (i + 1) ≡ first_from p text i
+  pub first_later : (text : List ℕ) (i : ℕ) → i < length text → p (get_or text i 0) ≡ false → first_from p text (i + 1) ≡ first_from p text i
   unfolding first_from before
-  first-later text i h t = rw (add-one i, drop-cons text i 0 h, t) (omega arith)
+  first_later text i h t = rw (add-one i, drop-cons text i 0 h, t) (omega arith)
 
   before-passes : (l : List ℕ) → before p l < length l → p (get_or l (before p l) 0) ≡ true
   unfolding before
@@ -163,36 +163,3 @@ words_more text at end next w h e n = rw (n, e) (words-at text at h (w.1 h))
 pub words-none : (text : List ℕ) (at : ℕ) → length text ≤ at → words (drop at text) ≡ []
 unfolding words
 words-none text at h = rw (drop_of_length-le text h)
-
--- ---- names
-
-pub same_refl : (l : List ℕ) → same l l ≡ true
-unfolding same
-same_refl [] = refl
-same_refl (b ∷ bs) = rw (eq-eqb b b refl) (same_refl bs)
-
--- texts that are the same
-pub same-yes : (a b : List ℕ) → a ≡ b → same a b ≡ true
-same-yes a b e = rw e (same_refl b)
-
--- texts that are not the same
-pub same_not : (a b : List ℕ) → (a ≡ b → ⊥) → same a b ≡ false
-unfolding same
-same_not [] [] h = absurd (h refl)
-same_not [] (c ∷ cs) h = refl
-same_not (b ∷ bs) [] h = refl
-same_not (b ∷ bs) (c ∷ cs) h = go (eqb b c) refl (same_not bs cs)
-  where
-    go : (t : Bool) → eqb b c ≡ t → ((bs ≡ cs → ⊥) → same bs cs ≡ false) → t && same bs cs ≡ false
-    go true e rest = rest (λ q. h (ap₂ ◌∷◌ (eqb-true b c e) q))
-    go false e rest = refl
-
--- the name that is the word
-pub place_here : (word name : List ℕ) (names : List (List ℕ)) → name ≡ word → place_in word (name ∷ names) ≡ 0
-unfolding place_in
-place_here word name names e = rw (e, same_refl word)
-
--- one that is not
-pub place-later : (word name : List ℕ) (names : List (List ℕ)) → (name ≡ word → ⊥) → place_in word (name ∷ names) ≡ suc (place_in word names)
-unfolding place_in
-place-later word name names h = rw (same_not name word h)

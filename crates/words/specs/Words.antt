@@ -1,7 +1,15 @@
 -- The words of a line (docs/SCRIPT.md): what stands between spaces, where a word begins and ends, and its place in a list of names.
-use Rattle.std.specs.Prelude.{ℕ, suc, ◌+◌, ◌-◌, ◌^◌, min, Bool, true, false, cond, not, ◌&&◌, List, [], ◌∷◌, length, take, drop, ◌==◌, nat_lt}
-use Rattle.words.specs.declared.Cursor.{Cursor}
+use Rattle.std.specs.Prelude.{ℕ, suc, ◌+◌, min, Bool, true, false, cond, not, List, [], ◌∷◌, length, take, drop, ◌==◌, nat_lt, ⊤, Option, None, option_map, Result, Ok, Err}
+use Rattle.std.specs.List.{position_from}
+use Rattle.std.specs.Str.{bytes_eq}
+use Rattle.words.specs.declared.Unreadable.{Unreadable}
+use Rattle.words.specs.declared.Unreadable.TheVariants as unreadable
 use Rattle.words.specs.declared.Pair.{Pair}
+
+-- what follows of a value, where there is one: a step that `?` goes on with
+unfoldable pub and_then : {A B E : Type 0} → Result A E → (A → Result B E) → Result B E
+and_then (Ok x) f = f x
+and_then (Err e) f = Err e
 
 -- ---- places
 
@@ -43,35 +51,27 @@ unfoldable pub words : List ℕ → List (List ℕ)
 words [] = []
 words (b ∷ bs) = cond (b == 32) (words bs) (begun b bs (words bs))
 
--- "a missing or extra word": 4 where fewer words are there than wanted, 5 where more, else 0
-unfoldable pub count_why : ℕ → ℕ → ℕ
-count_why n wanted = cond (nat_lt n wanted) 4 (cond (nat_lt wanted n) 5 0)
+-- "a missing or extra word": missing where fewer words are there than wanted, extra where more
+unfoldable pub counted : ℕ → ℕ → Result ⊤ Unreadable
+counted n wanted = cond (nat_lt n wanted) (Err unreadable.MissingWord) (cond (nat_lt wanted n) (Err unreadable.ExtraWord) (Ok tt))
 
--- a cursor at a place, which stops unless so many words are left
-abbrev pub exactly_of : List ℕ → ℕ → ℕ → Cursor
-exactly_of text at wanted = record { at = at; why = count_why (length (words (drop at text))) wanted }
+-- are so many words left
+abbrev pub exactly_of : List ℕ → ℕ → ℕ → Result ⊤ Unreadable
+exactly_of text at wanted = counted (length (words (drop at text))) wanted
 
 -- ---- names
 
--- are two texts the same
-unfoldable pub same : List ℕ → List ℕ → Bool
-same [] [] = true
-same [] (c ∷ cs) = false
-same (b ∷ bs) [] = false
-same (b ∷ bs) (c ∷ cs) = b == c && same bs cs
+-- a word's place among names, counted on from one
+abbrev pub place_in : List ℕ → ℕ → List (List ℕ) → Option ℕ
+place_in word n names = position_from (λ name. bytes_eq name word) n names
 
--- a word's place among names, as many as there are where it is none of them
-unfoldable pub place_in : List ℕ → List (List ℕ) → ℕ
-place_in word [] = 0
-place_in word (n ∷ ns) = cond (same n word) 0 (suc (place_in word ns))
+-- a word's place among names apart by spaces
+abbrev pub place_of : List ℕ → List ℕ → Option ℕ
+place_of names word = place_in word 0 (words names)
 
--- the same of names apart by spaces
-abbrev pub place_of : List ℕ → List ℕ → ℕ
-place_of names word = place_in word (words names)
+-- KEY=VALUE at its first sign: the key's place and where the value begins; none where there is no sign or the key is no name
+unfoldable pub split_at : List ℕ → List ℕ → ℕ → Option Pair
+split_at names word sign = cond (sign == length word) None (option_map (λ key. record { key = key; value = sign + 1 }) (place_of names (take sign word)))
 
--- KEY=VALUE at its first sign: the key's place and where the value begins; past any list of names where there is no sign
-unfoldable pub split_at : List ℕ → List ℕ → ℕ → Pair
-split_at names word sign = cond (sign == length word) (record { key = 2 ^ 64 - 1; value = sign }) (record { key = place_of names (take sign word); value = sign + 1 })
-
-abbrev pub split_of : List ℕ → List ℕ → Pair
+abbrev pub split_of : List ℕ → List ℕ → Option Pair
 split_of names word = split_at names word (find_of word 0 61)

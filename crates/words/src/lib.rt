@@ -4,50 +4,29 @@
 
 pub mod volts;
 
-ghost use Rattle.std.specs.Prelude.{◌≡◌, ◌+◌, ◌*◌, ◌%◌, ◌<◌, ◌≤◌, min, length, drop};
+ghost use Rattle.std.specs.Prelude.{◌≡◌, ◌+◌, ◌*◌, ◌%◌, ◌<◌, ◌≤◌, min, length, drop, IfOk, IfSome};
 ghost use Rattle.words.specs.Words.{sought, first_from, find_of, skip_of, words, exactly_of, place_of, split_of};
-ghost use Rattle.words.specs.Numbers.{digit_of, unread_of, longer_of, numeral_of, nothing_of, next_of};
+ghost use Rattle.words.specs.Numbers.{digit_of, longer_of, numeral_of, next_of};
 
-// Why a line cannot be read; FINE where it can.
-pub const FINE: u8 = 0;
-
-pub const UNKNOWN_COMMAND: u8 = 1;
-
-pub const UNKNOWN_KEY: u8 = 2;
-
-pub const UNKNOWN_NAME: u8 = 3;
-
-pub const MISSING_WORD: u8 = 4;
-
-pub const EXTRA_WORD: u8 = 5;
-
-pub const MALFORMED: u8 = 6;
-
-pub const TOO_LARGE: u8 = 7;
-
-pub const TOO_LONG: u8 = 8;
-
-pub const NOT_OPENED: u8 = 9;
-
-// What a word says, 0 where it cannot be read.
-#[derive(Clone, Copy)]
-pub struct Read {
-    pub value: u64,
-    pub why: u8,
+// Why a line cannot be read.
+#[derive(Clone, Copy, PartialEq, Eq)]
+pub enum Unreadable {
+    UnknownCommand,
+    UnknownKey,
+    UnknownName,
+    MissingWord,
+    ExtraWord,
+    Malformed,
+    TooLarge,
+    TooLong,
+    NotOpened,
 }
 
-// Where reading stands in a line, and why it stopped there.
-#[derive(Clone, Copy)]
-pub struct Cursor {
-    pub at: usize,
-    pub why: u8,
-}
-
-// A number of a line, and where reading goes on.
+// A number of a line, and where its word ends.
 #[derive(Clone, Copy)]
 pub struct Taken {
     pub value: u64,
-    pub next: Cursor,
+    pub end: usize,
 }
 
 // Of a word KEY=VALUE, the key's place in a list of names, and where the value begins.
@@ -58,15 +37,14 @@ pub struct Pair {
 }
 
 // The first place from one on that holds a byte, or where another is wanted holds another, else the text's end.
+#[tactic(auto, using(crate::proofs::Places::test_sought, crate::proofs::Places::first_none, crate::proofs::Places::first_here, crate::proofs::Places::first_later))]
 pub fn seek(text: &[u8], from: usize, byte: u8, another: bool) -> usize
     ensures { (min from (length text.now) ≤ result) × (result ≤ length text.now) × (result ≡ first_from (sought byte another) text.now from) }
 {
-    let mut i = from;
-    while i < text.len() {
+    for i in from..text.len() {
         if (text[i] == byte) != another {
             return i;
         }
-        i += 1;
     }
     text.len()
 }
@@ -98,159 +76,119 @@ fn count(text: &[u8], from: usize) -> usize
     n
 }
 
-// Stops where not as many words are left as wanted.
-#[tactic(auto, unfolding(crate::specs::Words::count_why))]
-pub fn exactly(text: &[u8], at: usize, wanted: usize) -> Cursor
+// Refuses a line that has not as many words left as wanted.
+#[tactic(auto, unfolding(crate::specs::Words::counted))]
+pub fn exactly(text: &[u8], at: usize, wanted: usize) -> Result<(), Unreadable>
     ensures { result ≡ exactly_of text.now at wanted }
 {
     let n = count(text, at);
     if n < wanted {
-        return Cursor {
-            at,
-            why: MISSING_WORD,
-        };
+        return Err(Unreadable::MissingWord);
     }
     if wanted < n {
-        return Cursor {
-            at,
-            why: EXTRA_WORD,
-        };
+        return Err(Unreadable::ExtraWord);
     }
-    Cursor { at, why: FINE }
+    Ok(())
 }
 
-// A word's place in a list of names, which are apart by spaces; as many as there are where it is none of them.
-pub fn place(names: &[u8], word: &[u8]) -> usize
-    ensures { result ≡ place_of names.now word.now }
+// A word's place in a list of names, which are apart by spaces.
+pub fn place(names: &[u8], word: &[u8]) -> Option<usize>
+    ensures { IfSome result (λ n. n < length (words names.now)) × (result ≡ place_of names.now word.now) }
 {
     let mut n = 0;
     let mut at = skip(names, 0);
     while at < names.len() {
         let end = find(names, at + 1, b' ');
-        if check::same(&names[at..end], word) {
-            return n;
+        if &names[at..end] == word {
+            return Some(n);
         }
         n += 1;
         at = skip(names, end);
     }
-    n
+    None
 }
 
-// Splits KEY=VALUE; the key's place is past any list where there is no such sign.
-pub fn split(names: &[u8], word: &[u8]) -> Pair
-    ensures { (result.value ≤ length word.now) × (result ≡ split_of names.now word.now) }
+// Splits KEY=VALUE at its first sign, where the key is one of the names.
+#[tactic(auto, unfolding(crate::specs::Words::split_at))]
+pub fn split(names: &[u8], word: &[u8]) -> Option<Pair>
+    ensures { IfSome result (λ p. (p.key < length (words names.now)) × (p.value ≤ length word.now)) × (result ≡ split_of names.now word.now) }
 {
     let sign = find(word, 0, b'=');
     if sign == word.len() {
-        return Pair {
-            key: usize::MAX,
-            value: sign,
-        };
+        return None;
     }
-    Pair {
-        key: place(names, &word[0..sign]),
+    let key = place(names, &word[..sign])?;
+    Some(Pair {
+        key,
         value: sign + 1,
-    }
+    })
 }
 
-// The value of a digit, 16 where it is none.
-fn digit(b: u8) -> u64
-    ensures { result ≡ digit_of b }
+// The value of a digit of a radix.
+#[tactic(auto, unfolding(crate::specs::Numbers::digit_of))]
+fn digit(b: u8, radix: u64) -> Option<u64>
+    ensures { result ≡ digit_of radix b }
 {
-    match b {
-        b'0'..=b'9' => (b - b'0') as u64,
-        b'A'..=b'F' => (b - b'A') as u64 + 10,
-        b'a'..=b'f' => (b - b'a') as u64 + 10,
-        _ => 16,
-    }
+    let value = match b {
+        b'0'..=b'9' => b - b'0',
+        b'A'..=b'F' => b - b'A' + 10,
+        b'a'..=b'f' => b - b'a' + 10,
+        _ => return None,
+    };
+    let value = value as u64;
+    if value < radix { Some(value) } else { None }
 }
 
-// A word that cannot be read.
-pub fn unread(why: u8) -> Read
-    ensures { (result.value ≡ 0) × (result ≡ unread_of why) }
+// A number with one more digit, none where it exceeds the most.
+#[tactic(auto, unfolding(crate::specs::Numbers::longer_of, crate::specs::Numbers::limited))]
+fn longer(value: Option<u64>, d: u64, radix: u64, most: u64) -> Option<u64>
+    ensures { result ≡ longer_of value d radix most }
 {
-    Read { value: 0, why }
+    let longer = value?.checked_mul(radix)?.checked_add(d)?;
+    if longer <= most { Some(longer) } else { None }
 }
 
-// A number with one more digit, too large once it exceeds the most.
-fn longer(r: Read, d: u64, radix: u64, most: u64) -> Read
-    requires { 0 < radix }
-    ensures { result ≡ longer_of r d radix most }
+// A word as a number in a radix, at most as large as told; one that is malformed is so even where it is too large.
+#[tactic(auto, using(crate::proofs::Numerals::numeral_empty, crate::proofs::Numerals::numeral_malformed, crate::proofs::Numerals::longer_limited, crate::proofs::Numerals::extended_more, crate::proofs::Numerals::digits_more, crate::proofs::Numerals::digits_failed, crate::proofs::Numerals::digit_less))]
+pub fn numeral(word: &[u8], radix: u64, most: u64) -> Result<u64, Unreadable>
+    ensures { IfOk result (λ n. n ≤ most) × (result ≡ numeral_of word.now radix most) }
 {
-    if r.why != FINE {
-        return unread(TOO_LARGE);
+    if word.is_empty() {
+        return Err(Unreadable::Malformed);
     }
-    if most < d {
-        return unread(TOO_LARGE);
+    let mut value = Some(0);
+    for b in word {
+        let Some(d) = digit(*b, radix) else {
+            return Err(Unreadable::Malformed);
+        };
+        value = longer(value, d, radix, most);
     }
-    if (most - d) / radix < r.value {
-        return unread(TOO_LARGE);
-    }
-    Read {
-        value: r.value * radix + d,
-        why: FINE,
-    }
-}
-
-// A word as a number in a radix, at most as large as told.
-pub fn numeral(word: &[u8], radix: u64, most: u64) -> Read
-    ensures { (result.value ≤ most) × (result ≡ numeral_of word.now radix most) }
-{
-    if word.len() == 0 {
-        return unread(MALFORMED);
-    }
-    let mut r = unread(FINE);
-    let mut i = 0;
-    while i < word.len() {
-        let d = digit(word[i]);
-        if radix <= d {
-            return unread(MALFORMED);
-        }
-        r = longer(r, d, radix, most);
-        i += 1;
-    }
-    r
-}
-
-// Nothing is read.
-pub fn none(c: Cursor) -> Taken
-    ensures { (result.value ≡ 0) × (result ≡ nothing_of c) }
-{
-    Taken { value: 0, next: c }
+    value.ok_or(Unreadable::TooLarge)
 }
 
 // The next word as a number.
-fn next(text: &[u8], c: Cursor, radix: u64, most: u64) -> Taken
-    ensures { (result.value ≤ most) × (result ≡ next_of text.now c radix most) }
+#[tactic(auto, unfolding(crate::specs::Numbers::next_of, crate::specs::Words::and_then))]
+fn next(text: &[u8], at: usize, radix: u64, most: u64) -> Result<Taken, Unreadable>
+    ensures { IfOk result (λ t. t.value ≤ most) × (result ≡ next_of text.now at radix most) }
 {
-    if c.why != FINE {
-        return none(c);
-    }
-    let start = skip(text, c.at);
+    let start = skip(text, at);
     let end = find(text, start, b' ');
-    let r = numeral(&text[start..end], radix, most);
-    let next = Cursor {
-        at: end,
-        why: r.why,
-    };
-    Taken {
-        value: r.value,
-        next,
-    }
+    let value = numeral(&text[start..end], radix, most)?;
+    Ok(Taken { value, end })
 }
 
 // The next word as a decimal number.
-pub fn decimal(text: &[u8], c: Cursor, most: u64) -> Taken
-    ensures { (result.value ≤ most) × (result ≡ next_of text.now c 10 most) }
+pub fn decimal(text: &[u8], at: usize, most: u64) -> Result<Taken, Unreadable>
+    ensures { IfOk result (λ t. t.value ≤ most) × (result ≡ next_of text.now at 10 most) }
 {
-    next(text, c, 10, most)
+    next(text, at, 10, most)
 }
 
 // The next word as a hexadecimal number.
-pub fn hexadecimal(text: &[u8], c: Cursor, most: u64) -> Taken
-    ensures { (result.value ≤ most) × (result ≡ next_of text.now c 16 most) }
+pub fn hexadecimal(text: &[u8], at: usize, most: u64) -> Result<Taken, Unreadable>
+    ensures { IfOk result (λ t. t.value ≤ most) × (result ≡ next_of text.now at 16 most) }
 {
-    next(text, c, 16, most)
+    next(text, at, 16, most)
 }
 
 // A number's lowest eight bits.

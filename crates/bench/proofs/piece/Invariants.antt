@@ -1,10 +1,8 @@
--- `bench::piece` meets its contract. The loop's invariant: what was read of the piece fed the script on, with what the file answered.
+-- What was read of the piece fed the script on, with what the file answered.
 use Prim.Native.Nat.{ℕ, ◌-◌, ◌≤◌}
 use mathlib.Core.List.{List}
-use mathlib.Core.Path.{◌≡◌}
 use lib.ListN.{length}
 use Rattle.words.specs.Numbers.{between}
-use Rattle.page.specs.Page.{size}
 use Rattle.bench_lines.specs.Desk.{Sound, Stable}
 use Rattle.bench_lines.specs.Named.{lent}
 use Rattle.bench_lines.specs.Steps.{Held}
@@ -12,9 +10,9 @@ use Rattle.bench_lines.specs.Claims.{left}
 use Rattle.session.specs.Runs.{Carries}
 use Rattle.bench.proofs.piece.Given as goal
 
-abbrev pub invariant-loop-i : goal.invariant-loop-i
-invariant-loop-i g l =
-    (Sound l.run.bench) × (Stable l.run.shelf) × (l.i ≤ length l.input) × ((answers bytes : List ℕ) → Held l.initial.line l.initial.run.held bytes → length l.initial.page ≡ size → (Carries (left l.initial.run.bench l.initial.run.shelf (lent l.initial.room l.initial.area l.initial.items) l.initial.one l.initial.two answers) bytes (between l.input 0 l.i) l.run.bench l.run.shelf l.run.held (lent l.room l.area l.items) l.one l.two l.line) × (length l.page ≡ size))
+abbrev pub invariant-loop-next : goal.invariant-loop-next
+invariant-loop-next g l =
+    (Sound l.desk.bench) × (Stable l.desk.shelf) × (l.next ≤ length l.input) × ((answers bytes : List ℕ) → Held l.initial.line bytes → Carries (left l.initial.desk.bench l.initial.desk.shelf (lent l.initial.room l.initial.area l.initial.items) l.initial.one l.initial.two answers) bytes (between l.input 0 l.next) l.desk.bench l.desk.shelf (lent l.room l.area l.items) l.one l.two l.line)
 
-abbrev pub decreases-loop-i : goal.decreases-loop-i
-decreases-loop-i g l = length l.input - l.i
+abbrev pub decreases-loop-next : goal.decreases-loop-next
+decreases-loop-next g l = length l.input - l.next

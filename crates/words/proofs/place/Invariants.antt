@@ -5,7 +5,7 @@ use Rattle.words.proofs.Places.{AtWord}
 use Rattle.words.proofs.place.Given as goal
 
 abbrev pub invariant-loop-at : goal.invariant-loop-at
-invariant-loop-at l = (l.n ≤ l.at) × AtWord l.names l.at × (l.n + place_in l.word (words (drop l.at l.names)) ≡ place_in l.word (words l.names))
+invariant-loop-at l = (l.n ≤ l.at) × AtWord l.names l.at × (l.n + length (words (drop l.at l.names)) ≡ length (words l.names)) × (place_in l.word l.n (words (drop l.at l.names)) ≡ place_in l.word 0 (words l.names))
 
 abbrev pub decreases-loop-at : goal.decreases-loop-at
 decreases-loop-at l = length l.names - l.at

@@ -1,10 +1,14 @@
+use Rattle.std.proofs.Common.{refl}
 use Rattle.figures.specs.Figures.{codes}
-use Rattle.bench_lines.proofs.Saying.{recorded-unread, recorded-says}
+use Rattle.bench_lines.specs.Lines.{recorded_of}
 use Rattle.bench_lines.proofs.lines.recorded.Goals as goal
 
-pub returns-then-end-ne-FINE : goal.returns-then-end-ne-FINE
-returns-then-end-ne-FINE c = recorded-unread c.args.b c.requires _ _ c.args.from c.whose-whose.result _ _ c.whose-whose.ensures c.if-end-ne-FINE.true c.unreadable.ensures
+pub returns-in-Err : goal.returns-in-Err
+unfolding recorded_of
+returns-in-Err c = rw (← c.whose.ensures, c.in-Err.is) (record { bench = refl; puts = c.unreadable.ensures; sound = c.requires })
 
-pub returns : goal.returns
-unfolding codes
-returns c = recorded-says c.args.b c.requires _ _ c.args.from c.whose-whose.result _ _ c.whose-whose.ensures c.if-end-ne-FINE.false c.text.ensures
+pub returns-in-Ok : goal.returns-in-Ok
+unfolding codes recorded_of
+returns-in-Ok c =
+    let s = c.requires in
+    rw (← c.whose.ensures, c.in-Ok.is) (record { bench = refl; puts = c.text.ensures; sound = record { timer = s.timer; watchdog = s.watchdog; door = s.door; ring = s.ring } })

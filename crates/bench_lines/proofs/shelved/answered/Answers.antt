@@ -1,20 +1,11 @@
 use Rattle.board.specs.Calls.{areas_of}
-use Rattle.bench_lines.proofs.Shelving.{answered-sched, answered-board}
+use Rattle.bench_lines.specs.Shelved.{answered_of}
 use Rattle.bench_lines.proofs.shelved.answered.Goals as goal
 
-pub scheduled-requires : goal.scheduled-requires
-scheduled-requires c = c.requires
+pub returns-in-Scheduler : goal.returns-in-Scheduler
+unfolding answered_of
+returns-in-Scheduler c = rw c.in-Scheduler.is (c.scheduled.ensures (areas_of c.args.room.now c.args.one.now c.args.two.now))
 
-pub returns-then-later-eq-SCHED : goal.returns-then-later-eq-SCHED
-returns-then-later-eq-SCHED c =
-    let a = c.args in
-    let areas = areas_of a.room.now a.one.now a.two.now in
-    answered-sched a.b a.s areas a.line.now a.later.which a.later.at _ _ _ _ _ a.from _ c.if-later-eq-SCHED.true (c.scheduled.ensures areas)
-
-pub ordered-requires : goal.ordered-requires
-ordered-requires c = c.requires
-
-pub returns : goal.returns
-returns c =
-    let a = c.args in
-    answered-board a.b a.s (areas_of a.room.now a.one.now a.two.now) a.line.now a.later.which a.later.at _ _ _ _ _ a.from _ c.if-later-eq-SCHED.false c.ordered.ensures
+pub returns-in-Board : goal.returns-in-Board
+unfolding answered_of
+returns-in-Board c = rw c.in-Board.is c.ordered.ensures

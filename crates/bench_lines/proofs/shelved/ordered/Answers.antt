@@ -1,17 +1,14 @@
-use Rattle.board.specs.Calls.{areas_of}
-use Rattle.bench_lines.proofs.Shelving.{ordered-unread, ordered-works}
-use Rattle.std.proofs.Common.{rules}
+use Rattle.std.proofs.Common.{refl}
+use Rattle.bench_lines.specs.Shelved.{ordered_of}
+use Rattle.bench_lines.proofs.Shelving.{taken_works}
 use Rattle.bench_lines.proofs.shelved.ordered.Goals as goal
 
-pub returns-then-asked-ne-FINE : goal.returns-then-asked-ne-FINE
-returns-then-asked-ne-FINE c =
-    let a = c.args in
-    ordered-unread a.b a.s c.requires.0 c.requires.1 _ _ a.from (areas_of a.room.now a.one.now a.two.now) c.of-asked.result _ _ c.of-asked.ensures.1 c.if-asked-ne-FINE.true c.unreadable.ensures
+pub returns-in-Err : goal.returns-in-Err
+unfolding ordered_of
+returns-in-Err c =
+    rw (← c.of.ensures.1, c.in-Err.is) (record { bench = refl; shelf = refl; puts = c.unreadable.ensures; areas = refl; sound = c.requires.0; stable = c.requires.1 })
 
-pub order_line-left-requires : goal.order_line-left-requires
-order_line-left-requires c = (c.requires.1.board, c.of-asked.ensures.0, search rules, search rules, search rules)
-
-pub returns : goal.returns
-returns c =
-    let a = c.args in
-    ordered-works a.b a.s c.requires.0 c.requires.1 _ _ a.from (areas_of a.room.now a.one.now a.two.now) c.of-asked.result _ _ _ _ c.order_line-left.result c.kept.result c.of-asked.ensures.1 c.if-asked-ne-FINE.false c.order_line-left.ensures c.kept.ensures
+pub returns-in-Ok : goal.returns-in-Ok
+unfolding ordered_of
+returns-in-Ok c =
+    rw (← c.of.ensures.1, c.in-Ok.is) (taken_works c.args.d c.requires.0 c.requires.1 _ _ _ _ _ _ c.order_line-left.result c.kept.result c.on_board.result c.order_line-left.ensures c.kept.ensures c.on_board.ensures)

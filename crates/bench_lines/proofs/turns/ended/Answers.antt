@@ -1,8 +1,8 @@
-use Rattle.bench_lines.proofs.Hearing.{ended-later, ended-now}
+use Rattle.bench_lines.proofs.Hearing.{ended_later, ended_now}
 use Rattle.bench_lines.proofs.turns.ended.Goals as goal
 
-pub returns-then-later-ne0 : goal.returns-then-later-ne0
-returns-then-later-ne0 c = λ x old from room area items l. ended-later x old _ room area items from c.args.h l c.if-later-ne0.true
+pub returns-in-Some : goal.returns-in-Some
+returns-in-Some c = λ x old room area items l. ended_later x old _ room area items c.args.h l c.in-Some.later c.in-Some.is
 
-pub returns : goal.returns
-returns c = λ x old from room area items l. ended-now x old _ room area items from c.args.h l _ _ c.if-later-ne0.false c.byte.ensures
+pub returns-in-None : goal.returns-in-None
+returns-in-None c = λ x old room area items l. ended_now x old _ room area items c.args.h l _ c.in-None.is c.byte.ensures

@@ -1,38 +1,53 @@
-use Rattle.std.proofs.Common.{true, false, refl, arith}
-use Rattle.page.proofs.Sheets.{put-none}
+use Rattle.std.proofs.Common.{◌≡◌, ◌≤◌, length, take, true, false, sym, ap, subst, ◌∙◌, Option, IfSome}
+use Rattle.linewise.specs.declared.Reached.{Reached}
+use Rattle.bench_lines.specs.declared.named.Later.{Later}
+use Rattle.bench_lines.specs.Named.{Asking, Hears, lent}
 use Rattle.bench_lines.specs.Steps.{so_far}
-use Rattle.bench_lines.proofs.Feeding.{held_none, held_more, held-size}
-use Rattle.bench_lines.proofs.Stepping.{turn-cut, turn-feeds}
+use Rattle.bench_lines.proofs.Feeding.{held_more}
+use Rattle.bench_lines.proofs.Hearing.{hears_none}
+use Rattle.bench_lines.proofs.Stepping.{first_within, first_held, first_asked, turn_feeds}
 use Rattle.bench_lines.proofs.turns.turn.Goals as goal
-
-pub step-heard-requires : goal.step-heard-requires
-step-heard-requires c = c.requires.0
-
-pub returns-then-reached : goal.returns-then-reached
-returns-then-reached c =
-    let a = c.args in
-    let r = c.cut-reached.result in
-    let cuts = c.cut-reached.ensures.2 in (
-      c.step-heard.ensures.0,
-      c.step-heard.ensures.1,
-      c.cut-reached.ensures.0,
-      c.cut-reached.ensures.1,
-      λ bytes h.
-          let more = held_more a.line.now _ bytes _ a.held r.held h cuts.held in
-          let st = c.step-heard.ensures.2 (so_far bytes a.input.now a.start) more in
-          record { cut = turn-cut a.input.now a.start r true cuts.cut c.if-reached.true; feeds = λ s. turn-feeds s bytes a.input.now a.start r true c.requires.1 cuts.cut c.if-reached.true; hears = st.0; held = held_none _ (held-size _ _ _ more); asked = st.1 },
-    )
 
 pub returns : goal.returns
 returns c =
     let a = c.args in
     let r = c.cut-reached.result in
     let cuts = c.cut-reached.ensures.2 in
-    rw c.nothing.ensures (
+    let e : r.ended ≡ false = c.if-reached.false in (
       c.requires.0,
-      omega arith,
+      tt,
+      c.cut-reached.ensures.0,
+      c.cut-reached.ensures.1,
+      λ bytes h. record {
+        cut = (ap (λ (x : Reached). x.at) cuts.cut, sym e ∙ ap (λ (x : Reached). x.ended) cuts.cut);
+        feeds = λ s. turn_feeds s bytes a.input.now a.start r false c.requires.1 cuts.cut e;
+        hears = hears_none a.b a.page.now a.room.now a.area.now a.items.now c.requires.0;
+        held = held_more _ _ bytes _ h cuts.held;
+        asked = tt;
+      },
+    )
+
+pub returns-then-reached : goal.returns-then-reached
+returns-then-reached c =
+    let a = c.args in
+    let r = c.cut-reached.result in
+    let cuts = c.cut-reached.ensures.2 in
+    let line = c.cut-reached.new.self in
+    let l = lent a.room.now a.area.now a.items.now in
+    let hears = c.step-heard.ensures in
+    let e : r.ended ≡ true = c.if-reached.true in (
+      hears.leaves.says.sound,
+      subst (λ (o : Option Later). IfSome o (λ q. q.end ≤ length line)) (sym hears.later) (first_within a.b line l),
       c.cut-reached.ensures.0,
       c.cut-reached.ensures.1,
       λ bytes h.
-          record { cut = turn-cut a.input.now a.start r false cuts.cut c.if-reached.false; feeds = λ s. turn-feeds s bytes a.input.now a.start r false c.requires.1 cuts.cut c.if-reached.false; hears = record { bench = refl; puts = put-none _ _; lent = refl; later = refl; sound = c.requires.0 }; held = held_more a.line.now _ bytes _ a.held r.held h cuts.held; asked = refl },
+          let ln = so_far bytes a.input.now a.start in
+          let more = held_more _ line bytes _ h cuts.held in
+          record {
+            cut = (ap (λ (x : Reached). x.at) cuts.cut, sym e ∙ ap (λ (x : Reached). x.ended) cuts.cut);
+            feeds = λ s. turn_feeds s bytes a.input.now a.start r true c.requires.1 cuts.cut e;
+            hears = subst (λ (x : Asking). Hears x a.page.now c.step-heard.new.page c.step-heard.new.room c.step-heard.new.area c.step-heard.new.items c.step-heard.result) (first_held line ln more a.b l) hears;
+            held = more;
+            asked = subst (λ (o : Option Later). IfSome o (λ q. take q.end line ≡ take q.end ln)) (sym hears.later) (first_asked line ln more a.b l);
+          },
     )

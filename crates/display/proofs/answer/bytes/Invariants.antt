@@ -1,12 +1,9 @@
--- `display::answer::bytes` meets its contract. The loop's invariant: the bytes passed are put, and no more than were written.
-use Rattle.page.specs.Page.{Puts}
+-- The bytes passed are put.
+use Prim.Native.Nat.{min}
 use lib.ListN.{length, take}
-use Prim.Native.Nat.{◌≤◌, ◌-◌}
+use Rattle.page.specs.Page.{Puts}
 use Rattle.display.specs.Answers.{hexes}
 use Rattle.display.proofs.answer.bytes.Given as goal
 
-abbrev pub invariant-loop-i : goal.invariant-loop-i
-invariant-loop-i l = (l.i ≤ l.written) × Puts l.initial.page l.initial.at l.page l.at (hexes (take l.i l.area))
-
-abbrev pub decreases-loop-i : goal.decreases-loop-i
-decreases-loop-i l = length l.area - l.i
+abbrev pub invariant-loop-b : goal.invariant-loop-b
+invariant-loop-b l = Puts l.initial.page l.page (hexes (take l.b-index (take (min l.written (length l.area)) l.area)))

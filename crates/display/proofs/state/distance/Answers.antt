@@ -1,4 +1,4 @@
--- `display::state::distance` meets its contract: its parts are put one after the other.
+-- The parts are put one after the other.
 use Rattle.page.specs.Page.{Puts}
 use Rattle.tick.specs.declared.distance.Distance.{Distance}
 use mathlib.Core.Path.{subst}
@@ -9,4 +9,4 @@ use Rattle.display.proofs.state.distance.Goals as goal
 
 pub returns : goal.returns
 unfolding codes distance_line
-returns c = subst (λ (d : Distance). Puts c.args.page.now c.args.from c.number.new.page c.number.result (distance_line d)) c.distance-d.ensures (then (then c.number-at.ensures c.register-at.ensures) c.number.ensures)
+returns c = subst (λ (d : Distance). Puts c.args.page.now c.number-2.new.self (distance_line d)) c.distance-d.ensures (then (then c.number.ensures c.register.ensures) c.number-2.ensures)

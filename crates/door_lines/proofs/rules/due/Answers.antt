@@ -1,12 +1,8 @@
--- `door_lines::rules::due` meets its contract.
-use Rattle.door_lines.specs.Rules.{due_line}
+-- The words where nothing is due.
 use Rattle.figures.specs.Figures.{codes}
+use Rattle.door_lines.specs.Rules.{due_line}
 use Rattle.door_lines.proofs.rules.due.Goals as goal
 
-pub returns-in-At : goal.returns-in-At
+pub returns-in-None : goal.returns-in-None
 unfolding codes due_line
-returns-in-At c = rw c.in-At.is c.number.ensures
-
-pub returns-in-Nothing : goal.returns-in-Nothing
-unfolding codes due_line
-returns-in-Nothing c = rw c.in-Nothing.is c.text.ensures
+returns-in-None c = rw c.in-None.is c.text.ensures

@@ -2,7 +2,4 @@ use Rattle.figures.proofs.Writing.{wrote_then}
 use Rattle.dump.proofs.text.around.Goals as goal
 
 pub returns : goal.returns
-returns c =
-    let number = c.number-b in
-    let put = c.put-a in
-    wrote_then (wrote_then put.ensures number.ensures) c.put.ensures
+returns c = wrote_then (wrote_then c.put-a.ensures c.number-b.ensures) c.put.ensures

@@ -1,12 +1,13 @@
--- `soak::first_pass::check_chunks` meets its contract. The loop's invariant: the check is that of the chunks so far.
-use mathlib.Core.Path.{◌≡◌}
-use lib.ListN.{length}
-use Rattle.soak.proofs.Chunks.{to_go}
+use Rattle.std.proofs.Common.{◌≡◌, ◌-◌, length}
+use Prim.Native.Nat.{suc}
+use Rattle.verdict.specs.Refusal.{longest}
 use Rattle.soak.proofs.FirstPass.{ChecksSoFar}
 use Rattle.soak.proofs.first_pass.check_chunks.Given as goal
 
-abbrev pub invariant-loop-area : goal.invariant-loop-area
-invariant-loop-area l = (length l.area ≡ 640) × ChecksSoFar l.input l.check
+-- the check is that of the chunks so far
+abbrev pub invariant-loop-n : goal.invariant-loop-n
+invariant-loop-n l = record { area : length l.area ≡ 640; checks : ChecksSoFar l.file.input l.check }
 
-abbrev pub decreases-loop-area : goal.decreases-loop-area
-decreases-loop-area l = to_go l.input
+-- how many bytes the pass may still read, and one more
+abbrev pub decreases-loop-n : goal.decreases-loop-n
+decreases-loop-n l = suc longest - l.file.input.bytes

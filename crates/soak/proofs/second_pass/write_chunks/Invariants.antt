@@ -1,12 +1,13 @@
--- `soak::second_pass::write_chunks` meets its contract. The loop's invariant: what was written is the lines of the chunks so far.
+use Rattle.std.proofs.Common.{◌≡◌, ◌-◌, length}
+use Prim.Native.Nat.{suc}
+use Rattle.verdict.specs.Refusal.{longest}
 use Rattle.soak.proofs.SecondPass.{WritesSoFar}
-use Rattle.soak.proofs.Chunks.{to_go}
-use lib.ListN.{length}
-use mathlib.Core.Path.{◌≡◌}
 use Rattle.soak.proofs.second_pass.write_chunks.Given as goal
 
-abbrev pub invariant-loop-area : goal.invariant-loop-area
-invariant-loop-area g l = (length l.area ≡ 640) × WritesSoFar l.initial.input l.initial.output l.input l.writer l.output
+-- what was written is the lines of the chunks so far
+abbrev pub invariant-loop-n : goal.invariant-loop-n
+invariant-loop-n g l = record { area : length l.area ≡ 640; writes : WritesSoFar l.initial.out.output l.file.input l.writer l.out.output }
 
-abbrev pub decreases-loop-area : goal.decreases-loop-area
-decreases-loop-area g l = to_go l.input
+-- how many bytes the pass may still read, and one more
+abbrev pub decreases-loop-n : goal.decreases-loop-n
+decreases-loop-n g l = suc longest - l.file.input.bytes

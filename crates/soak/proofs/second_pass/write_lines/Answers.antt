@@ -1,23 +1,19 @@
-use Rattle.soak.proofs.Prefixes.{counts, most, room, wrote-prefix}
-use mathlib.Core.Path.{refl}
-use Rattle.soak.proofs.SecondPass.{lines-put, writer-after}
-use native.Mathlib.Omega.{arith}
+use Rattle.std.proofs.Common.{refl, arith}
+use Rattle.soak.proofs.Prefixes.{counts, most, wrote-prefix}
+use Rattle.soak.proofs.SecondPass.{lines-put, put_ok, put_prefix}
 use Rattle.soak.proofs.second_pass.write_lines.Goals as goal
 
+pub unwrap-n-requires : goal.unwrap-n-requires
+unwrap-n-requires g c = put_ok (lines-put _ _ _ _ _ c.requires.chunk refl c.piece.auto.out c.piece.ensures.answers)
+
 pub slice_bounds-lines-end : goal.slice_bounds-lines-end
-slice_bounds-lines-end g c = (lines-put _ _ _ _ _ _ c.requires.0 refl c.piece-step.auto.out c.piece-step.ensures c.bytes_in-n.ensures).fits
+slice_bounds-lines-end g c = (put_prefix (lines-put _ _ _ _ _ c.requires.chunk refl c.piece.auto.out c.piece.ensures.answers) c.unwrap-n.ensures).fits
 
 pub slice_bounds-write-end : goal.slice_bounds-write-end
-slice_bounds-write-end g c = counts (lines-put _ _ _ _ _ _ c.requires.0 refl c.piece-step.auto.out c.piece-step.ensures c.bytes_in-n.ensures)
+slice_bounds-write-end g c = counts (put_prefix (lines-put _ _ _ _ _ c.requires.chunk refl c.piece.auto.out c.piece.ensures.answers) c.unwrap-n.ensures)
 
-pub write-requires : goal.write-requires
-write-requires g c = room (lines-put _ _ _ _ _ _ c.requires.0 refl c.piece-step.auto.out c.piece-step.ensures c.bytes_in-n.ensures) _ _ (omega (arith, c.piece-step.auto.out, c.requires.1))
+pub returns-clause-output : goal.returns-clause-output
+returns-clause-output g c = wrote-prefix (put_prefix (lines-put _ _ _ _ _ c.requires.chunk refl c.piece.auto.out c.piece.ensures.answers) c.unwrap-n.ensures) _ c.write.ensures
 
-pub returns : goal.returns
-returns g c =
-    let f = lines-put _ _ _ _ _ _ c.requires.0 refl c.piece-step.auto.out c.piece-step.ensures c.bytes_in-n.ensures in
-    record {
-      writer = writer-after _ _ _ _ _ c.requires.0 refl c.piece-step.ensures;
-      output = wrote-prefix f _ c.write.ensures;
-      most = omega (arith, most f, c.piece-step.auto.out);
-    }
+pub returns-clause-most : goal.returns-clause-most
+returns-clause-most g c = omega (arith, most (put_prefix (lines-put _ _ _ _ _ c.requires.chunk refl c.piece.auto.out c.piece.ensures.answers) c.unwrap-n.ensures), c.piece.auto.out)

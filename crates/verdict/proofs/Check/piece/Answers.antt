@@ -1,32 +1,23 @@
-use Rattle.verdict.proofs.Checks.{judged-ahead, noted-ahead, part-ended, judge-ended, pins-ended, check-is}
+use Rattle.std.proofs.Common.{sym, ◌∙◌}
 use Rattle.verdict.specs.Check.{judged_all, noted_all}
-use Rattle.pieces.specs.Pieces.{wholes}
-use native.Mathlib.Omega.{arith}
-use lib.ListN.{drop}
-use mathlib.Core.Path.{refl, sym, ap, ◌∙◌}
+use Rattle.verdict.proofs.Checks.{check-is}
 use Rattle.verdict.proofs.Check.piece.Goals as goal
 
-pub loop-at-init : goal.loop-at-init
-loop-at-init c = (omega arith, refl, refl, refl)
-
-pub next-next-requires : goal.next-next-requires
-next-next-requires c = omega arith
-
-pub loop-at-smaller : goal.loop-at-smaller
-loop-at-smaller c = omega (arith, c.next-next.ensures.more, c.next-next.ensures.within)
-
-pub loop-at-preserved : goal.loop-at-preserved
-loop-at-preserved c = let cut = c.next-next.ensures in let inv = c.loop-at.invariant in let n = c.next-next.result in let rest = wholes n.part (drop n.at c.args.bytes.now) in (
-  cut.within,
-  sym cut.part ∙ inv.1,
-  rw c.after-judge.ensures (sym (judged-ahead n.ends c.loop-at.judge n.whole rest) ∙ sym (ap (judged_all c.loop-at.judge) cut.wholes) ∙ inv.2),
-  rw c.kind.ensures (sym (noted-ahead n.ends c.loop-at.pins n.whole rest) ∙ sym (ap (noted_all c.loop-at.pins) cut.wholes) ∙ inv.3),
-)
+pub loop-whole-preserved : goal.loop-whole-preserved
+unfolding judged_all noted_all
+loop-whole-preserved c =
+    let one = c.in-Some.ensures.steps in
+    let kept = c.loop-whole.invariant in
+    record {
+      part = sym one.part ∙ kept.part;
+      seen = rw c.record.ensures kept.seen;
+      judge = rw c.record.ensures (rw one.wholes at kept.judge);
+      pins = rw c.record.ensures (rw one.wholes at kept.pins);
+    }
 
 pub returns : goal.returns
-returns c = let inv = c.loop-at.invariant in let l = c.loop-at-test.false in
-    check-is c.args.self c.args.bytes.now _ _ _ _
-    (sym (part-ended c.args.bytes.now c.loop-at.at inv.0 l c.loop-at.part) ∙ inv.1)
-    c.counted-seen.ensures
-    (sym (judge-ended c.args.bytes.now c.loop-at.at inv.0 l c.loop-at.part c.loop-at.judge) ∙ inv.2)
-    (sym (pins-ended c.args.bytes.now c.loop-at.at inv.0 l c.loop-at.part c.loop-at.pins) ∙ inv.3)
+unfolding judged_all noted_all
+returns c =
+    let none = rw c.in_default.is at c.next.ensures.steps in
+    let kept = c.loop-whole.invariant in
+    check-is c.args.self.now c.args.bytes.now _ _ _ _ (c.remainder-self.ensures ∙ sym none.part ∙ kept.part) (kept.seen ∙ c.counted-self.ensures) (rw none.wholes at kept.judge) (rw none.wholes at kept.pins)

@@ -1,35 +1,30 @@
-use Rattle.dump.proofs.Turns.{room-here, turn-text, turn_last, turn-room, text-ended, writer-ended}
-use Rattle.figures.proofs.Writing.{writing-none}
+use Rattle.std.proofs.Common.{sym, ap, ◌∙◌, arith, length}
+use Rattle.dump.specs.declared.writer.Writer.{Writer}
 use Rattle.pieces.proofs.Cuts.{wholes-length}
-use native.Mathlib.Omega.{arith}
-use mathlib.Core.Path.{refl, sym, ◌∙◌}
+use Rattle.figures.proofs.Writing.{writing-none, writing_more, writing-all}
+use Rattle.dump.proofs.Lines.{left-one, kept-one, left-none, kept-none}
 use Rattle.dump.proofs.writer.Writer.lines.Goals as goal
 
-pub loop-at-init : goal.loop-at-init
-loop-at-init c = (omega arith, refl, writing-none _ _ _, refl, omega (arith, c.requires, wholes-length c.args.self.part c.args.bytes.now), refl)
+pub loop-whole-init : goal.loop-whole-init
+loop-whole-init c = record {
+  lines = rw (c.records-records.ensures.part, c.records-records.ensures.rest) (writing-none _ _ _);
+  writer = rw (c.records-records.ensures.part, c.records-records.ensures.rest);
+  room = rw (c.records-records.ensures.part, c.records-records.ensures.rest) (omega (arith, wholes-length c.args.self.now.part c.args.bytes.now));
+}
 
-pub next-next-requires : goal.next-next-requires
-next-next-requires c = omega arith
+pub loop-whole-preserved : goal.loop-whole-preserved
+loop-whole-preserved c =
+    let one = c.in-Some.ensures.steps in
+    let last = ap (λ (w : Writer). w.last) c.change-at.ensures.last in
+    let fewer = ap length one.wholes in
+    record {
+      lines = rw last (writing_more (rw (left-one one) at c.loop-whole.invariant.lines) c.change-at.ensures.lines);
+      writer = rw last (sym (kept-one one _) ∙ c.loop-whole.invariant.writer);
+      room = omega arith;
+    }
 
-pub change-c-requires : goal.change-c-requires
-change-c-requires c = room-here c.next-next.ensures c.loop-at.c.at _ c.loop-at.invariant.4
+pub returns-clause-lines : goal.returns-clause-lines
+returns-clause-lines c = writing-all (rw (left-none c.in_default.ensures.steps) at c.loop-whole.invariant.lines)
 
-pub loop-at-smaller : goal.loop-at-smaller
-loop-at-smaller c = omega (arith, c.next-next.ensures.more, c.next-next.ensures.within)
-
-pub loop-at-preserved : goal.loop-at-preserved
-loop-at-preserved c = let cut = c.next-next.ensures in let inv = c.loop-at.invariant in (
-  cut.within,
-  sym cut.part ∙ inv.1,
-  turn-text cut c.loop-at.c.last _ inv.2 c.change-c.ensures.0 c.change-c.ensures.1,
-  turn_last cut c.loop-at.c.last _ c.change-c.ensures.1 ∙ inv.3,
-  rw c.change-c.auto.out (turn-room cut c.loop-at.c.at c.change-c.result.at _ inv.4 c.change-c.ensures.2),
-  c.change-c.auto.out ∙ inv.5,
-)
-
-pub returns : goal.returns
-returns c = let inv = c.loop-at.invariant in (
-  text-ended c.args.self c.args.bytes.now c.loop-at.at inv.0 c.loop-at-test.false c.loop-at.part c.loop-at.c.last c.loop-at.c.at inv.2,
-  writer-ended c.args.self c.args.bytes.now c.loop-at.at inv.0 c.loop-at-test.false c.loop-at.part c.loop-at.c.last c.loop-at.c.at inv.1 inv.3,
-  omega (arith, inv.4, inv.5),
-)
+pub returns-clause-writer : goal.returns-clause-writer
+returns-clause-writer c = rw c.remainder-self.ensures (sym (kept-none c.in_default.ensures.steps _) ∙ c.loop-whole.invariant.writer)

@@ -1,9 +1,18 @@
--- `wdt_lines::asked::Asked::of` meets its contract: the words are read in their order.
-use Rattle.wdt_lines.proofs.Asking.{asked_is}
-use borrow.Author.Rules.{rules}
+-- A line by its command's place.
+use Rattle.figures.specs.Figures.{codes}
+use mathlib.Core.Path.{refl}
+use Rattle.wdt_lines.specs.Asked.{named_of}
+use Rattle.wdt_lines.proofs.Telling.{line_named}
 use Rattle.wdt_lines.proofs.asked.Asked.of.Goals as goal
 
-pub returns : goal.returns
-returns c =
+pub returns-in-Some : goal.returns-in-Some
+unfolding codes named_of
+returns-in-Some c =
     let a = c.args in
-    (search rules, asked_is a.line.now a.at a.name _ _ _ _ _ _ c.arguments.ensures c.exactly-start.ensures c.value-value.ensures c.cycle-cycle.ensures c.size-size.ensures.1 c.call_of.ensures)
+    (c.following.ensures.0, rw (line_named a.line.now a.at c.skip-start.result c.find-end.result c.skip-start.ensures.2 c.if-start-line.false c.find-end.ensures.2, ← c.place.ensures.1, c.in-Some.is, ← c.command_at.ensures) c.following.ensures.1)
+
+pub returns-in-None : goal.returns-in-None
+unfolding codes named_of
+returns-in-None c =
+    let a = c.args in
+    (tt, rw (line_named a.line.now a.at c.skip-start.result c.find-end.result c.skip-start.ensures.2 c.if-start-line.false c.find-end.ensures.2, ← c.place.ensures.1, c.in-None.is) refl)

@@ -1,9 +1,0 @@
--- `display::state::lines` meets its contract: its parts are put one after the other.
-use Rattle.display.specs.States.{lines_of}
-use Rattle.figures.specs.Figures.{codes}
-use Rattle.page.proofs.Sheets.{then}
-use Rattle.display.proofs.state.lines.Goals as goal
-
-pub returns : goal.returns
-unfolding codes lines_of
-returns c = then (then (then (then c.bit-at.ensures c.bit-at-2.ensures) c.bit-at-3.ensures) c.bit-at-4.ensures) c.bit.ensures

@@ -1,0 +1,7 @@
+-- The bytes passed are put.
+use lib.ListN.{take}
+use Rattle.page.specs.Page.{Puts}
+use Rattle.page.proofs.Page.text.Given as goal
+
+abbrev pub invariant-loop-b : goal.invariant-loop-b
+invariant-loop-b l = Puts l.initial.self l.self (take l.b-index l.bytes)

@@ -1,4 +1,0 @@
-use Rattle.watchdog.proofs.outcome.done.Goals as goal
-
-pub returns : goal.returns
-returns c = simp c.accepted.ensures
