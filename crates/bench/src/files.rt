@@ -6,6 +6,7 @@ use session::settles::Fault;
 use std::fs::File;
 use std::io::Write;
 use std::rt::Files;
+use words::Unreadable;
 
 // Begins door.log anew in place of the file that records go to, which stays open where that fails.
 fn anew<R: Files<File = File>>(rt: &R, file: &mut Option<File>) -> Result<(), Fault> {
@@ -14,7 +15,7 @@ fn anew<R: Files<File = File>>(rt: &R, file: &mut Option<File>) -> Result<(), Fa
             *file = Some(next);
             Ok(())
         }
-        Err(_) => Err(Fault::NotOpened),
+        Err(_) => Err(Fault::Unread(Unreadable::NotOpened)),
     }
 }
 

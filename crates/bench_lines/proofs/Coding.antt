@@ -96,7 +96,7 @@ shelved-steps s bytes input start old new room area items line r q t n last room
     go true h =
         let m : x.later ≡ Some q = sym h.later ∙ n in
         let same : new ≡ old = (subst (λ (k : List ℕ). Puts old new k) (first-silent s.bench ln s.lent q m) h.leaves.says.puts).after in
-        let worked = shelved_of r.bench s.shelf (areas_of room s.one s.two) (take q.end line) q.device q.at in
+        let worked = shelved_of r.bench s.shelf (areas_of room s.one s.two) (take q.end line.bytes) q.device q.at in
         let answers = s.answers ++ worked.bytes in
         record {
           bytes = worked.bytes;
@@ -105,9 +105,9 @@ shelved-steps s bytes input start old new room area items line r q t n last room
               ap (λ (b : Bench). left b y.shelf (lent room' area items) one two answers) w.bench
               ∙ ap (λ (k : Shelf). left worked.bench k (lent room' area items) one two answers) w.shelf
               ∙ ap (λ (a : Areas). left worked.bench worked.shelf (lent a.zero area items) a.one a.two answers) w.areas
-              ∙ ap (λ (b : Bench). of b (lent room area items) (take q.end line)) h.leaves.says.bench
-              ∙ ap (λ (l : Lent). of x.lined.told.bench l (take q.end line)) h.leaves.lent
-              ∙ ap (of x.lined.told.bench x.lined.lent) (subst (λ (o : Option Later). IfSome o (λ p. take p.end line ≡ take p.end ln)) n t.asked)
+              ∙ ap (λ (b : Bench). of b (lent room area items) (take q.end line.bytes)) h.leaves.says.bench
+              ∙ ap (λ (l : Lent). of x.lined.told.bench l (take q.end line.bytes)) h.leaves.lent
+              ∙ ap (of x.lined.told.bench x.lined.lent) (subst (λ (o : Option Later). IfSome o (λ p. take p.end line.bytes ≡ take p.end ln)) n t.asked)
               ∙ sym (step-later s ln q m);
         }
       where

@@ -7,6 +7,7 @@ use Rattle.words.specs.Words.{before, first_from, sought}
 use Rattle.words.specs.Numbers.{between}
 use Rattle.linewise.specs.Lines.{hold, holds, Holds, end_of, cut_of}
 use Rattle.linewise.specs.Claims.{Read, reading, feed, fed}
+use Rattle.linewise.specs.Texts.{Text, going}
 use Rattle.linewise.proofs.Claims.{whole, too_long}
 use Rattle.bench_lines.specs.Steps.{Held}
 
@@ -40,6 +41,11 @@ held_none = record { after = refl }
 -- some bytes more are held
 pub held_more : (line new bytes more : List ℕ) → Held line bytes → Holds line new more → Held new (bytes ++ more)
 held_more line new bytes more h w = record { after = w.after ∙ ap (λ (x : List ℕ). holds x more) h.after ∙ sym (foldl-append hold [] bytes more) }
+
+-- what is held of a line that goes on: nothing where it ended
+pub held_on : (line : Text) (bytes : List ℕ) (t : Bool) → line.ended ≡ t → Held line.bytes bytes → Held (going line) (cond t [] bytes)
+held_on line bytes true e h = rw e held_none
+held_on line bytes false e h = rw e h
 
 -- ---- what is fed
 

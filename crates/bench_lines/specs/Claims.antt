@@ -1,6 +1,7 @@
 -- What is proved of a script's lines beside the functions.
 use Rattle.std.specs.Prelude.{◌≡◌, ℕ, ◌+◌, ◌≤◌, true, List, ◌++◌, length, take, Some, None}
 use Rattle.page.specs.Page.{size, Puts}
+use Rattle.linewise.specs.Texts.{Text}
 use Rattle.board.specs.Calls.{areas_of}
 use Rattle.bench_lines.specs.declared.desk.Bench.{Bench}
 use Rattle.bench_lines.specs.declared.desk.Desk.{Desk}
@@ -35,16 +36,16 @@ pub record Stepped (s : State) (line old new : List ℕ) (b : Bench) (shelf : Sh
 
 -- `turn`, of a line that ended and asks nothing of the shelf
 abbrev pub TurnIsStep : Type 0
-TurnIsStep = (s : State) (bytes input : List ℕ) (start : ℕ) (old new room area items line : List ℕ) (r : Turned)
+TurnIsStep = (s : State) (bytes input : List ℕ) (start : ℕ) (old new room area items : List ℕ) (line : Text) (r : Turned)
     → Turns s.bench s.lent bytes input start old new room area items line r → r.ended ≡ true → r.later ≡ None
     → Stepped s (so_far bytes input start) old new r.bench s.shelf (lent room area items) s.one s.two
 
 -- and then `shelved`, of one that does, with the page as `turn` leaves it
 abbrev pub ShelvedIsStep : Type 0
-ShelvedIsStep = (s : State) (bytes input : List ℕ) (start : ℕ) (old new room area items line : List ℕ) (r : Turned) (q : Later)
+ShelvedIsStep = (s : State) (bytes input : List ℕ) (start : ℕ) (old new room area items : List ℕ) (line : Text) (r : Turned) (q : Later)
     → Turns s.bench s.lent bytes input start old new room area items line r → r.later ≡ Some q
     → (last room' one two : List ℕ) (x : Desk)
-    → Works (shelved_of r.bench s.shelf (areas_of room s.one s.two) (take q.end line) q.device q.at) new last room' one two x
+    → Works (shelved_of r.bench s.shelf (areas_of room s.one s.two) (take q.end line.bytes) q.device q.at) new last room' one two x
     → Stepped s (so_far bytes input start) old last x.bench x.shelf (lent room' area items) one two
 
 abbrev pub CodeIsStep : Type 0

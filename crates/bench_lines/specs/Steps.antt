@@ -6,6 +6,7 @@ use Rattle.words.specs.declared.Unreadable.TheVariants as unreadable
 use Rattle.page.specs.Page.{unreadable_of}
 use Rattle.linewise.specs.Lines.{Holds, end_of, cut_of}
 use Rattle.linewise.specs.Claims.{reading, fed}
+use Rattle.linewise.specs.Texts.{Text, going}
 use Rattle.board.specs.Calls.{areas_of}
 use Rattle.bench_lines.specs.declared.desk.Bench.{Bench}
 use Rattle.bench_lines.specs.declared.desk.Shelf.{Shelf}
@@ -91,10 +92,11 @@ Held line bytes = Holds [] line bytes
 abbrev pub so_far : List ℕ → List ℕ → ℕ → List ℕ
 so_far bytes input start = bytes ++ between input start (end_of input start)
 
--- a piece read from a place on is the script fed on to there: a line that ended is answered, but for what it asks of the shelf, and its bytes so far are held
-pub record Turns (b : Bench) (l : Lent) (bytes input : List ℕ) (start : ℕ) (old new room area items line : List ℕ) (r : Turned) : Type 0 where
+-- a piece read from a place on is the script fed on to there: a line that ended is answered, but for what it asks of the shelf, and its bytes so far are held; the next turn goes on with nothing of it, or with those of a line that did not end
+pub record Turns (b : Bench) (l : Lent) (bytes input : List ℕ) (start : ℕ) (old new room area items : List ℕ) (line : Text) (r : Turned) : Type 0 where
   pub cut : (r.next ≡ (cut_of input start).at) × (r.ended ≡ (cut_of input start).ended)
   pub feeds : (s : State) → fed step_of (reading s bytes) (between input start r.next) ≡ cond r.ended (reading (step_of s (so_far bytes input start)) []) (reading s (so_far bytes input start))
   pub hears : Hears (cond r.ended (first_of b (so_far bytes input start) l) (saying b [] l)) old new room area items (record { bench = r.bench; later = r.later })
-  pub held : Held line (so_far bytes input start)
-  pub asked : IfSome r.later (λ q. take q.end line ≡ take q.end (so_far bytes input start))
+  pub held : Held line.bytes (so_far bytes input start)
+  pub kept : Held (going line) (cond r.ended [] (so_far bytes input start))
+  pub asked : IfSome r.later (λ q. take q.end line.bytes ≡ take q.end (so_far bytes input start))

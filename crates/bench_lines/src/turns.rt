@@ -1,6 +1,7 @@
 // A script's lines, one after the other.
 
 ghost use Rattle.std.specs.Prelude.{◌≡◌, ℕ, ◌<◌, ◌≤◌, List, length, IfSome};
+ghost use Rattle.linewise.specs.Texts.{going};
 ghost use Rattle.bench_lines.specs.Desk.{Sound};
 ghost use Rattle.bench_lines.specs.Named.{Asking, Hears, lent};
 ghost use Rattle.bench_lines.specs.Steps.{Held, Turns, counted, ended_of, heard_of, first_of};
@@ -80,7 +81,7 @@ fn step(
     items: &mut Items,
 ) -> Heard
     requires { Sound b }
-    ensures { Hears (first_of b line.now (lent room.old area.old items.old)) page.old page.new room.new area.new items.new result }
+    ensures { Hears (first_of b line.now.bytes (lent room.old area.old items.old)) page.old page.new room.new area.new items.new result }
 {
     let b = counted(b);
     if line.is_too_long() {
@@ -96,7 +97,7 @@ fn step(
     heard(b, page, &held[..end], room, area, items)
 }
 
-// Reads a piece from a place on to the end of a line, or its own, and answers the line that ended, which is still held.
+// Reads a piece from a place on to the end of a line, or its own, and answers the line that ended, which is still held until the next is read.
 pub fn turn(
     b: Bench,
     page: &mut Page,
@@ -108,7 +109,7 @@ pub fn turn(
     items: &mut Items,
 ) -> Turned
     requires { (Sound b) × (start < length input.now) }
-    ensures { (Sound result.bench) × IfSome result.later (λ q. q.end ≤ length line.new) × (start < result.next) × (result.next ≤ length input.now) × ((bytes : List ℕ) → Held line.old bytes → Turns b (lent room.old area.old items.old) bytes input.now start page.old page.new room.new area.new items.new line.new result) }
+    ensures { (Sound result.bench) × IfSome result.later (λ q. q.end ≤ length line.new.bytes) × (start < result.next) × (result.next ≤ length input.now) × ((bytes : List ℕ) → Held (going line.old) bytes → Turns b (lent room.old area.old items.old) bytes input.now start page.old page.new room.new area.new items.new line.new result) }
 {
     let reached = line.cut(input, start);
     if reached.ended {

@@ -282,11 +282,12 @@ impl Keyed for Keys {
     }
 
     #[tactic(auto, using(crate::proofs::Reading::keys_many), unfolding(crate::specs::Keys::taken_of, words::specs::Words::and_then))]
-    fn taken(mut self, key: usize, word: &[u8]) -> Result<Keys, Unreadable> {
+    fn take(&mut self, key: usize, word: &[u8]) -> Result<(), Unreadable> {
         if key == 18 {
-            return self.compare(word);
+            *self = self.compare(word)?;
+        } else {
+            self.values[key] = Some(read(key, word)?);
         }
-        self.values[key] = Some(read(key, word)?);
-        Ok(self)
+        Ok(())
     }
 }

@@ -14,9 +14,9 @@ pub enum Asked {
     Edge(Cycle),
 }
 
-// Rule one: its hold.
+// Rule one, from the place after its name: its hold.
 #[tactic(auto, unfolding(crate::specs::Asked::one_of, words::specs::Words::and_then))]
-fn one(line: &[u8], at: usize) -> Result<Asked, Unreadable>
+pub fn one(line: &[u8], at: usize) -> Result<Asked, Unreadable>
     ensures { result ≡ one_of line.now at }
 {
     exactly(line, at, 1)?;
@@ -24,9 +24,9 @@ fn one(line: &[u8], at: usize) -> Result<Asked, Unreadable>
     Ok(Asked::Rule(Rule::One { hold: hold.value }))
 }
 
-// Rule two: its hold, its quiet time and its cap.
+// Rule two, from the place after its name: its hold, its quiet time and its cap.
 #[tactic(auto, unfolding(crate::specs::Asked::two_of, words::specs::Words::and_then))]
-fn two(line: &[u8], at: usize) -> Result<Asked, Unreadable>
+pub fn two(line: &[u8], at: usize) -> Result<Asked, Unreadable>
     ensures { result ≡ two_of line.now at }
 {
     exactly(line, at, 3)?;
@@ -40,9 +40,9 @@ fn two(line: &[u8], at: usize) -> Result<Asked, Unreadable>
     }))
 }
 
-// An edge: its cycle.
+// An edge, from the place after its name: its cycle.
 #[tactic(auto, unfolding(crate::specs::Asked::edge_of, words::specs::Words::and_then))]
-fn edge(line: &[u8], at: usize) -> Result<Asked, Unreadable>
+pub fn edge(line: &[u8], at: usize) -> Result<Asked, Unreadable>
     ensures { result ≡ edge_of line.now at }
 {
     exactly(line, at, 1)?;

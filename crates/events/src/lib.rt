@@ -24,7 +24,7 @@ pub struct Event {
 }
 
 // How many events are held at most.
-const PLACES: usize = 64;
+pub const PLACES: usize = 64;
 
 // What stands in a place that holds no event.
 const BLANK: Event = Event {
@@ -67,6 +67,13 @@ impl Events {
             places: [BLANK; PLACES],
             count: 0,
         }
+    }
+
+    // How many events are held.
+    pub fn count(self) -> usize
+        ensures { result ≡ length self }
+    {
+        self.count
     }
 
     // Each place holds an event.

@@ -1,2 +1,4 @@
+pub mod Texts
 pub mod Lines
+pub mod Kept
 pub mod Claims

@@ -5,6 +5,6 @@ use Rattle.std.specs.Int.{to_be_bytes, w128}
 use Rattle.records.specs.Records.{bytes_of}
 
 -- the lowest ten bytes of sixteen
-pub low_bytes : (n : ℕ) → take 10 (drop 6 (to_be_bytes w128 n)) ≡ bytes_of 10 n
+pub low_bytes : (n m : ℕ) → n ≡ m → take 10 (drop 6 (to_be_bytes w128 n)) ≡ bytes_of 10 m
 unfolding bytes_of
-low_bytes n = rw (div-one n)
+low_bytes n m e = rw (← e, div-one n)

@@ -1,5 +1,5 @@
 -- What a list of writes tells, as its line does.
-use Rattle.std.proofs.Common.{◌≡◌, ℕ, ◌%◌, ◌<◌, ◌≤◌, List, ◌++◌, length, drop, refl, ap, Option, Some, IfSome}
+use Rattle.std.proofs.Common.{◌≡◌, ℕ, ◌%◌, ◌<◌, ◌≤◌, List, [], ◌++◌, length, drop, refl, ap, Option, Some, IfSome}
 use borrow.Author.Tests.{eq-eqb, ne_eqb, lt-ltb, le-ltb}
 use Rattle.figures.specs.Figures.{text, number}
 use Rattle.page.specs.Page.{Puts}
@@ -9,7 +9,7 @@ use Rattle.room.specs.Room.{changed_at}
 use Rattle.writes.specs.declared.Written.{Written}
 use Rattle.writes.specs.Writes.{Listed, Lists}
 use Rattle.list_lines.specs.declared.worked.Left.{Left}
-use Rattle.list_lines.specs.Lists.{ended_of, told_of, worked_of, on_timer, of_bytes, Leaves}
+use Rattle.list_lines.specs.Lists.{Lined, ended_of, told_of, worked_of, on_timer, of_bytes, Leaves}
 
 module _ (x : Listed) (w : Written) (after old new : List ℕ) (g : Lists x w after) (end : ℕ) (e : end ≡ changed_at after w.written) (list : List ℕ) where
   -- the area changed beyond what was written
@@ -47,3 +47,7 @@ pub not_tens : {old new area items : List ℕ} (t : Option Timer) (work : List �
     → Leaves (of_bytes t items work size area) old new area items (record { timer = t; written = 0 })
 unfolding of_bytes
 not_tens t work size h v p = rw (ne_eqb (length work % 10) 0 h) (record { timer = refl; items = refl; area = refl; written = refl; puts = p; valid = v })
+
+-- a list that was emptied
+pub emptied : {x : Lined} {old new after items : List ℕ} {r : Left} → items ≡ [] → Leaves x old new after [] r → Leaves x old new after items r
+emptied e l = rw e l

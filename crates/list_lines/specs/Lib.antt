@@ -1,3 +1,4 @@
 pub mod Items
+pub mod Kept
 pub mod Lists
 pub mod Claims

@@ -10,26 +10,36 @@ use time::units::Cycle;
 use words::{Unreadable, decimal, exactly, hexadecimal};
 
 // The most items of the list, and its bytes, ten an item.
-const MOST: usize = 400;
+pub const MOST: usize = 400;
 
-const LIST: usize = 4000;
+pub const LIST: usize = 4000;
 
 // The last cycle that an item has room for.
 const LAST: u64 = 0x3fff_ffff_ffff_ffff;
 
 // Items as `writes` reads them, ten bytes each. A contract sees those bytes, as a list, and not what stands behind them.
-#[derive(Drop)]
+#[derive(Clone, Copy)]
 pub struct Items {
     bytes: [u8; LIST],
     items: usize,
 }
 
+// Zeros stand behind the items, so that their bytes alone say what a list is, as a copy needs.
 impl Model for Items {
+    ghost use Rattle.std.specs.Prelude.{ℕ, List};
+
     ghost Value = { List ℕ };
 
-    ghost view = { λ l. take (10 * l.items) l.bytes };
+    ghost use Rattle.list_lines.specs.Kept.{kept, kept_in, Packed};
+    ghost use Rattle.std.proofs.Common.{sym};
 
-    ghost invariant = { λ l. l.items ≤ 400 };
+    ghost view = { kept_in };
+
+    ghost invariant = { Packed };
+
+    ghost inverse = { kept };
+
+    ghost inverse_ok = { λ l h. sym h.whole };
 }
 
 impl Items {
@@ -54,6 +64,7 @@ impl Items {
     pub fn clear(&mut self)
         ensures { self.new ≡ [] }
     {
+        self.bytes = [0; LIST];
         self.items = 0;
     }
 

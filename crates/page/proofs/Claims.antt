@@ -6,11 +6,12 @@ use mathlib.Core.Path.{◌≡◌, refl, sym, ap, ◌∙◌}
 use mathlib.Core.List.{List, [], ◌∷◌, ◌++◌, append-nil, append_assoc}
 use borrow.Author.Tests.{lt-ltb, le-ltb}
 use mathlib.Core.Bool.{Bool, true, false, cond}
-use lib.Dec.{ltb}
+use lib.Dec.{eqb, ltb}
 use lib.ListN.{length, take, length-append}
 use lib.Seq.{take_all, take-take, take-append-le}
-use Rattle.page.specs.Page.{size, put, puts}
-use Rattle.page.specs.Claims.{Fits, NothingLost, Bounded, RoomSeen, Short}
+use Rattle.words.specs.Reasons.{numbered}
+use Rattle.page.specs.Page.{size, put, puts, reason_of}
+use Rattle.page.specs.Claims.{Fits, NothingLost, Bounded, RoomSeen, Short, Numbered}
 use Rattle.page.proofs.Lengths.{unreadable-short}
 
 -- a byte that has room
@@ -88,3 +89,20 @@ room-seen page (b ∷ bs) h = seen page bs b (room-seen (page ++ b ∷ []) bs) h
 
 pub short : Short
 short = unreadable-short
+
+-- what is said of a choice is chosen
+chosen : {A B : Type 0} (f : A → B) (t : Bool) {x y : A} {u v : B} → f x ≡ u → f y ≡ v → f (cond t x y) ≡ cond t u v
+chosen f true e g = e
+chosen f false e g = g
+
+pub said-by-number : Numbered
+unfolding reason_of numbered
+said-by-number why =
+    chosen reason_of (eqb why 1) refl
+    (chosen reason_of (eqb why 2) refl
+    (chosen reason_of (eqb why 3) refl
+    (chosen reason_of (eqb why 4) refl
+    (chosen reason_of (eqb why 5) refl
+    (chosen reason_of (eqb why 6) refl
+    (chosen reason_of (eqb why 7) refl
+    (chosen reason_of (eqb why 9) refl refl)))))))

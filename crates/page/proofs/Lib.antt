@@ -1,3 +1,4 @@
+pub mod Packing
 pub mod Sheets
 pub mod Lengths
 pub mod Claims

@@ -2,7 +2,7 @@
 
 #![tactic(auto)]
 
-ghost use Rattle.std.specs.Prelude.{◌≡◌, ◌≤◌, ◌<◌, ℕ, List, [], ◌∷◌, ◌++◌, length, take};
+ghost use Rattle.std.specs.Prelude.{◌≡◌, ◌<◌, [], ◌∷◌, ◌++◌, length, take};
 ghost use Rattle.figures.specs.Figures.{number};
 ghost use Rattle.page.specs.Page.{Puts, hex_digit_ascii, last_digits, pair, pattern, flag, reason_of, unreadable_of};
 
@@ -13,18 +13,28 @@ use words::Unreadable;
 pub const SIZE: usize = 32768;
 
 // Bytes one after the other. A contract sees the bytes that were put, as a list.
-#[derive(Drop)]
+#[derive(Clone, Copy)]
 pub struct Page {
     bytes: [u8; SIZE],
     len: usize,
 }
 
+// Zeros stand behind the bytes that were put, so that they alone say what a page is, as a copy needs.
 impl Model for Page {
+    ghost use Rattle.std.specs.Prelude.{ℕ, List};
+
     ghost Value = { List ℕ };
 
-    ghost view = { λ p. take p.len p.bytes };
+    ghost use Rattle.page.specs.Kept.{kept, kept_in, Packed};
+    ghost use Rattle.std.proofs.Common.{sym};
 
-    ghost invariant = { λ p. p.len ≤ 32768 };
+    ghost view = { kept_in };
+
+    ghost invariant = { Packed };
+
+    ghost inverse = { kept };
+
+    ghost inverse_ok = { λ p h. sym h.whole };
 }
 
 impl Page {
@@ -57,6 +67,7 @@ impl Page {
         ensures { self.new ≡ take len self.old }
     {
         if len < self.len {
+            self.bytes[len..].fill(0);
             self.len = len;
         }
     }
@@ -113,11 +124,11 @@ impl Page {
     }
 
     // Puts a byte's two hexadecimal digits.
-    #[tactic(auto, unfolding(crate::specs::Page::pair))]
     pub fn two(&mut self, b: u8)
         ensures { Puts self.old self.new (pair b) }
     {
-        self.last(2, b as u64);
+        self.byte(glyph(b / 16));
+        self.byte(glyph(b % 16));
     }
 
     // Puts a label and a register's two digits.

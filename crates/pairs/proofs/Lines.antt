@@ -1,8 +1,10 @@
 -- Laws of lines: a loop over a line's words takes a step for each in turn, `Turning` its invariant.
 use Rattle.std.proofs.Common.{◌≡◌, ℕ, ◌+◌, ◌-◌, ◌<◌, ◌≤◌, List, length, take, drop, sym, refl, ap, ◌∙◌, Result, Ok, Err}
+use Rattle.std.specs.Bool.{⊤}
 use Rattle.words.specs.Words.{find_of, skip_of, words, and_then}
 use Rattle.words.proofs.Places.{AtWord, at-word, words-skipped, words_more, words-none}
-use Rattle.pairs.specs.Pairs.{in_turn}
+use Rattle.words.specs.declared.Unreadable.{Unreadable}
+use Rattle.pairs.specs.Pairs.{Takes, in_turn}
 
 module _ {A E : Type 0} (f : A → List ℕ → Result A E) (text : List ℕ) where
   -- what the words passed leave, with those from the place on, makes what all make
@@ -34,3 +36,11 @@ module _ {A E : Type 0} (f : A → List ℕ → Result A E) (text : List ℕ) wh
   pub turns_all : {a b : A} {from at : ℕ} → Turning a from b at → length text ≤ at → in_turn f a (words (drop from text)) ≡ Ok b
   unfolding in_turn
   turns_all {b = b} {at = at} g h = sym g.rest ∙ ap (in_turn f b) (words-none text at h)
+
+-- keys taken in place, by what was told
+module _ {K : Type 0} (r : Result K Unreadable) (told : Result ⊤ Unreadable) (new : K) where
+  pub takes_ok : (done : ⊤) → Takes r told new → told ≡ Ok done → r ≡ Ok new
+  takes_ok done t e = rw e at t
+
+  pub takes_err : (why : Unreadable) → Takes r told new → told ≡ Err why → r ≡ Err why
+  takes_err why t e = rw e at t

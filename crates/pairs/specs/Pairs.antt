@@ -1,5 +1,5 @@
 -- A line of words KEY=VALUE (docs/SCRIPT.md): "each key in turn".
-use Rattle.std.specs.Prelude.{ℕ, Bool, cond, List, [], ◌∷◌, drop, Option, Some, None, Result, Ok, Err}
+use Rattle.std.specs.Prelude.{ℕ, Bool, cond, List, [], ◌∷◌, drop, Option, Some, None, Result, Ok, Err, ⊤, ◌≡◌}
 use Rattle.words.specs.declared.Pair.{Pair}
 use Rattle.words.specs.declared.Unreadable.{Unreadable}
 use Rattle.words.specs.declared.Unreadable.TheVariants as unreadable
@@ -10,6 +10,11 @@ pub record Kept (K : Type 0) : Type 0 where
   pub names : List ℕ
   pub given : K → ℕ → Bool
   pub taken : K → ℕ → List ℕ → Result K Unreadable
+
+-- keys that are taken in place: what they then are, or why they cannot be read
+abbrev pub Takes : {K : Type 0} → Result K Unreadable → Result ⊤ Unreadable → K → Type 0
+Takes r (Ok done) new = r ≡ Ok new
+Takes r (Err why) new = r ≡ Err why
 
 -- a key and its value: "unknown key", "a key that stands twice"
 unfoldable pub paired : {K : Type 0} → Kept K → K → List ℕ → Option Pair → Result K Unreadable

@@ -4,7 +4,7 @@
 
 ghost use Rattle.std.specs.Prelude.{◌≡◌, ◌<◌, length};
 ghost use Rattle.words.specs.Words.{words};
-ghost use Rattle.pairs.specs.Pairs.{Kept, stepped, gathered};
+ghost use Rattle.pairs.specs.Pairs.{Kept, Takes, stepped, gathered};
 
 use words::{Unreadable, find, skip, split};
 
@@ -21,22 +21,22 @@ pub trait Keyed: Copy {
         requires { key < length (words kept.names) }
         ensures { result ≡ kept.given self.now key };
 
-    // The keys with a key's value.
-    fn taken(self, key: usize, value: &[u8]) -> Result<Self, Unreadable>
+    // Takes a key's value.
+    fn take(&mut self, key: usize, value: &[u8]) -> Result<(), Unreadable>
         requires { key < length (words kept.names) }
-        ensures { result ≡ kept.taken self key value.now };
+        ensures { Takes (kept.taken self.old key value.now) result self.new };
 }
 
-// The keys with one more KEY=VALUE.
+// Takes one more KEY=VALUE.
 #[tactic(auto, unfolding(crate::specs::Pairs::stepped, crate::specs::Pairs::paired))]
-fn with<K: Keyed>(keys: K, word: &[u8]) -> Result<K, Unreadable>
-    ensures { result ≡ stepped K.kept keys word.now }
+fn step<K: Keyed>(keys: &mut K, word: &[u8]) -> Result<(), Unreadable>
+    ensures { Takes (stepped K.kept keys.old word.now) result keys.new }
 {
     let pair = split(K::names(), word).ok_or(Unreadable::UnknownKey)?;
     if keys.given(pair.key) {
         return Err(Unreadable::ExtraWord);
     }
-    keys.taken(pair.key, &word[pair.value..])
+    keys.take(pair.key, &word[pair.value..])
 }
 
 // The keys with those of a line from a place on, each in turn up to the first that cannot be read.
@@ -47,7 +47,7 @@ pub fn gathered<K: Keyed>(keys: K, line: &[u8], from: usize) -> Result<K, Unread
     let mut at = skip(line, from);
     while at < line.len() {
         let end = find(line, at + 1, b' ');
-        keys = with(keys, &line[at..end])?;
+        step(&mut keys, &line[at..end])?;
         at = skip(line, end);
     }
     Ok(keys)

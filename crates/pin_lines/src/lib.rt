@@ -63,14 +63,14 @@ impl Keyed for Keys {
     }
 
     #[tactic(auto, using(crate::proofs::Names::keys_many), unfolding(crate::specs::PinLines::taken_of, words::specs::Words::and_then))]
-    fn taken(mut self, key: usize, word: &[u8]) -> Result<Keys, Unreadable> {
+    fn take(&mut self, key: usize, word: &[u8]) -> Result<(), Unreadable> {
         match key {
             0 => self.vcc = Some(volts_of(word)?),
             1 => self.connection = Some(connected(word)?),
             2 => self.volts = Some(volts_of(word)?),
             _ => self.bits[key - 3] = Some(numeral(word, 10, 0xff)? as u8),
         }
-        Ok(self)
+        Ok(())
     }
 }
 

@@ -4,57 +4,62 @@
 #![tactic(auto)]
 
 use pins::{Drive, Pin, Refusal, Resolved};
-use std::fmt;
 use words::volts::pattern;
 
-// What a call answers: its value, or its refusal's number.
-#[derive(Drop)]
-struct Answer<T>(Result<T, Refusal>);
-
-impl<T: fmt::Display> fmt::Display for Answer<T> {
-    fn fmt<W: fmt::Write>(&self, f: &mut fmt::Formatter<W>) -> fmt::Result {
-        match &self.0 {
-            Ok(value) => write!(f, "{value}"),
-            Err(refusal) => write!(f, "refused {}", refusal.number()),
-        }
-    }
+// Each piece of a line is written by itself, so that one that fails takes no other with it.
+fn put(rt: &impl Print, text: &str) {
+    let _ = rt.write_all(text.as_bytes());
 }
 
-#[derive(Clone, Copy)]
-struct YesNo(bool);
+fn put_number(rt: &impl Print, text: &str, n: u8) {
+    put(rt, text);
+    let _ = print!(rt; "{n}");
+}
 
-impl fmt::Display for YesNo {
-    fn fmt<W: fmt::Write>(&self, f: &mut fmt::Formatter<W>) -> fmt::Result {
-        f.write_str(if self.0 { "yes" } else { "no" })
-    }
+fn put_bool(rt: &impl Print, text: &str, b: bool) {
+    put(rt, text);
+    put(rt, if b { "yes" } else { "no" });
 }
 
 // A resolved pin, its volts by their bits.
-#[derive(Clone, Copy)]
-struct Levelled(Resolved);
+fn put_resolved(rt: &impl Print, resolved: Result<Resolved, Refusal>) {
+    match resolved {
+        Ok(Resolved { pin, changed }) => {
+            put_number(rt, ": level ", pin.level);
+            put(rt, " volts ");
+            let volts = pattern(pin.volts);
+            let _ = print!(rt; "{volts:016x}");
+            put_bool(rt, " changed ", changed);
+        }
+        Err(refusal) => put_number(rt, ": refused ", refusal.number()),
+    }
+}
 
-impl fmt::Display for Levelled {
-    fn fmt<W: fmt::Write>(&self, f: &mut fmt::Formatter<W>) -> fmt::Result {
-        let Resolved { pin, changed } = self.0;
-        let volts = pattern(pin.volts);
-        let changed = YesNo(changed);
-        write!(
-            f,
-            "level {} volts {volts:016x} changed {changed}",
-            pin.level
-        )
+fn put_bit(rt: &impl Print, bit: Result<u8, Refusal>) {
+    match bit {
+        Ok(n) => put_number(rt, " ", n),
+        Err(refusal) => put_number(rt, " refused ", refusal.number()),
+    }
+}
+
+fn put_contention(rt: &impl Print, contention: Result<bool, Refusal>) {
+    match contention {
+        Ok(b) => put_bool(rt, " ", b),
+        Err(refusal) => put_number(rt, " refused ", refusal.number()),
     }
 }
 
 // One case: its name and what the four calls answer.
 fn show(rt: &impl Print, name: &str, pin: Pin, drive: Drive, vcc: f64) {
-    let resolved = Answer(pin.resolve(drive, vcc).map(Levelled));
-    let driven = Answer(pin.driven());
-    let direction = Answer(pin.effective_dir());
-    let contention = Answer(pin.contention(drive).map(YesNo));
-    let _ = println!(rt;
-        "{name}: {resolved}, driven {driven}, direction {direction}, contention {contention}"
-    );
+    put(rt, name);
+    put_resolved(rt, pin.resolve(drive, vcc));
+    put(rt, ", driven");
+    put_bit(rt, pin.driven());
+    put(rt, ", direction");
+    put_bit(rt, pin.effective_dir());
+    put(rt, ", contention");
+    put_contention(rt, pin.contention(drive));
+    put(rt, "\n");
 }
 
 // An input without pulls that holds a level, and was last resolved at 0.25 V.
@@ -76,8 +81,8 @@ fn held(level: u8) -> Pin {
 
 // An analog input from either level.
 fn show_held(rt: &impl Print, name: &str, volts: f64, vcc: f64) {
-    for level in [0, 1] {
-        let _ = print!(rt; "held {level}, ");
+    for (level, held_at) in [(0, "held 0, "), (1, "held 1, ")] {
+        put(rt, held_at);
         show(rt, name, held(level), Drive::Analog(volts), vcc);
     }
 }
@@ -85,13 +90,13 @@ fn show_held(rt: &impl Print, name: &str, volts: f64, vcc: f64) {
 // A pin under each drive.
 fn show_drives(rt: &impl Print, name: &str, pin: Pin) {
     let drives = [
-        ("floating", Drive::Float),
-        ("low", Drive::Low),
-        ("high", Drive::High),
-        ("0.0 V", Drive::Analog(0.0)),
+        ("floating, ", Drive::Float),
+        ("low, ", Drive::Low),
+        ("high, ", Drive::High),
+        ("0.0 V, ", Drive::Analog(0.0)),
     ];
     for (connected, drive) in drives {
-        let _ = print!(rt; "{connected}, ");
+        put(rt, connected);
         show(rt, name, pin, drive, 5.0);
     }
 }

@@ -3,7 +3,7 @@
 ghost use Rattle.std.specs.Prelude.{◌≡◌, ℕ, List};
 ghost use Rattle.watchdog.specs.declared.calls.Call.{Call};
 ghost use Rattle.oscillator.specs.State.{Valid};
-ghost use Rattle.watchdog.specs.Outcome.{refused, number_of, values_of, heard};
+ghost use Rattle.watchdog.specs.Outcome.{refused, values_of, heard};
 ghost use Rattle.replies.specs.Watchdogs.{report_of, watched_of, Reported};
 
 use oscillator::state::Watchdog;
@@ -51,16 +51,26 @@ impl Report {
         }
     }
 
-    // Yields a refusal in numbers.
-    fn refused(why: Refusal) -> Report
-        ensures { result ≡ report_of (number_of why) refused 0 }
+    // Yields a refusal's number as a report: no value, nothing written.
+    fn refused(number: u8) -> Report
+        ensures { result ≡ report_of number refused 0 }
     {
         Report {
-            number: why.number(),
+            number,
             what: 0,
             value: 0,
             written: 0,
         }
+    }
+}
+
+// Yields the watchdog as it was, and a refusal by its number, whatever that is.
+pub fn refused(w: Watchdog, number: u8) -> Watched
+    ensures { result ≡ record { watchdog = w; report = report_of number refused 0 } }
+{
+    Watched {
+        watchdog: w,
+        report: Report::refused(number),
     }
 }
 
@@ -73,10 +83,7 @@ pub fn reported(w: Watchdog, answered: Result<Outcome, Refusal>) -> Watched
             watchdog: outcome.watchdog,
             report: Report::of(outcome),
         },
-        Err(why) => Watched {
-            watchdog: w,
-            report: Report::refused(why),
-        },
+        Err(why) => refused(w, why.number()),
     }
 }
 

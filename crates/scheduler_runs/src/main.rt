@@ -3,10 +3,9 @@
 
 #![tactic(auto)]
 
-ghost use Rattle.std.specs.Prelude.{◌<◌};
+ghost use Rattle.std.specs.Prelude.{◌<◌, ◌^◌};
 
 use scheduler::{EventKey, Scheduler};
-use std::fmt;
 
 #[derive(Clone, Copy)]
 enum Call {
@@ -17,17 +16,23 @@ enum Call {
     Clear,
 }
 
-#[derive(Clone, Copy)]
-struct Key(EventKey);
-
-impl fmt::Display for Key {
-    fn fmt<W: fmt::Write>(&self, f: &mut fmt::Formatter<W>) -> fmt::Result {
-        let EventKey { owner, tag } = self.0;
-        write!(f, "{owner} {tag}")
-    }
+// Each piece of a line is written by itself, so that one that fails takes no other with it.
+fn put(rt: &impl Print, text: &[u8]) {
+    let _ = rt.write_all(text);
 }
 
-fn draw(seed: u32) -> u32 {
+fn put_number(rt: &impl Print, n: u64) {
+    let _ = print!(rt; " {n}");
+}
+
+fn put_key(rt: &impl Print, key: EventKey) {
+    put_number(rt, key.owner as u64);
+    put_number(rt, key.tag as u64);
+}
+
+fn draw(seed: u32) -> u32
+    ensures { result < 2 ^ 31 }
+{
     ((seed as u64 * 1103515245 + 12345) % 2147483648) as u32
 }
 
@@ -83,35 +88,42 @@ fn call_of(step: u64, seed: u32) -> Call
 }
 
 fn at(rt: &impl Print, s: Scheduler, key: EventKey, cycle: u64) -> Scheduler {
-    let _ = print!(rt; "at {} {cycle}", Key(key));
+    put(rt, b"at");
+    put_key(rt, key);
+    put_number(rt, cycle);
     match s.at(key, cycle) {
         Ok(scheduler) => {
-            let _ = print!(rt; " 0");
+            put_number(rt, 0);
             scheduler
         }
         Err(full) => {
-            let _ = print!(rt; " {}", full.number());
+            put_number(rt, full.number() as u64);
             s
         }
     }
 }
 
 fn is_scheduled(rt: &impl Print, s: Scheduler, key: EventKey) -> Scheduler {
-    let _ = print!(rt; "is {}", Key(key));
-    let _ = match s.is_scheduled(key) {
-        Some(cycle) => print!(rt; " {cycle}"),
-        None => print!(rt; " never"),
-    };
+    put(rt, b"is");
+    put_key(rt, key);
+    match s.is_scheduled(key) {
+        Some(cycle) => put_number(rt, cycle),
+        None => put(rt, b" never"),
+    }
     s
 }
 
 fn pop_due(rt: &impl Print, s: Scheduler, now: u64) -> Scheduler {
-    let _ = print!(rt; "pop {now}");
+    put(rt, b"pop");
+    put_number(rt, now);
     let popping = s.pop_due(now);
-    let _ = match popping.due {
-        Some(event) => print!(rt; " {} {}", Key(event.key), event.cycle),
-        None => print!(rt; " nothing"),
-    };
+    match popping.due {
+        Some(event) => {
+            put_key(rt, event.key);
+            put_number(rt, event.cycle);
+        }
+        None => put(rt, b" nothing"),
+    }
     popping.scheduler
 }
 
@@ -120,13 +132,14 @@ fn make(rt: &impl Print, s: Scheduler, call: Call) -> Scheduler {
     match call {
         Call::At(key, cycle) => at(rt, s, key, cycle),
         Call::Cancel(key) => {
-            let _ = print!(rt; "cancel {}", Key(key));
+            put(rt, b"cancel");
+            put_key(rt, key);
             s.cancel(key)
         }
         Call::IsScheduled(key) => is_scheduled(rt, s, key),
         Call::PopDue(now) => pop_due(rt, s, now),
         Call::Clear => {
-            let _ = print!(rt; "clear");
+            put(rt, b"clear");
             s.clear()
         }
     }
@@ -138,6 +151,8 @@ fn main(rt: HostRuntime) {
     for step in 0..840 {
         seed = draw(seed);
         s = make(&rt, s, call_of(step, seed));
-        let _ = println!(rt; " next {}", s.next());
+        put(&rt, b" next");
+        put_number(&rt, s.next());
+        put(&rt, b"\n");
     }
 }

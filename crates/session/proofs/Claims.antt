@@ -13,7 +13,6 @@ use Rattle.page.proofs.Lengths.{either}
 use Rattle.linewise.specs.Claims.{Read, reading, feed, fed}
 use Rattle.bench_lines.specs.Steps.{State, step_of}
 use Rattle.bench_lines.proofs.Claims.{longest-holds}
-use Rattle.words.specs.declared.Unreadable.TheVariants as unreadable
 use Rattle.session.specs.declared.settles.Fault.{Fault}
 use Rattle.session.specs.declared.settles.Fault.TheVariants as fault
 use Rattle.session.specs.Files.{asks_of, settled_of, Filed, filed, file_of}
@@ -70,8 +69,8 @@ filed-longest s line (Err fault.NotWritten) =
     let a = length-append s.answers (text "door.log not written\n") in
     let m = unwritten-short in
     omega arith
-filed-longest s line (Err fault.NotOpened) =
+filed-longest s line (Err (fault.Unread why)) =
     let nth = (step_of s line).bench.line in
-    let b = length-append s.answers (unreadable_of nth unreadable.NotOpened ++ 10 ∷ []) in
-    let n = unopened-short nth unreadable.NotOpened in
+    let b = length-append s.answers (unreadable_of nth why ++ 10 ∷ []) in
+    let n = unopened-short nth why in
     omega arith

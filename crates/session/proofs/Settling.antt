@@ -9,7 +9,6 @@ use lib.ListN.{length, take, length-append}
 use lib.Seq.{take-append-le, take_all}
 use Rattle.figures.specs.Figures.{text}
 use Rattle.words.specs.declared.Unreadable.{Unreadable}
-use Rattle.words.specs.declared.Unreadable.TheVariants as unreadable
 use Rattle.page.specs.Page.{Puts, unreadable_of}
 use Rattle.page.proofs.Lengths.{said, unreadable-short}
 use Rattle.bench_lines.specs.declared.desk.Bench.{Bench}
@@ -59,17 +58,17 @@ module _ (was : State) (line old : List ℕ) (d : Desk) (l : Lent) (one two page
   }
 
   -- it was not opened
-  pub settled-unopened : (before : Desk) (new : List ℕ) → was.bench ≡ before.bench → was.shelf ≡ before.shelf
-      → Puts (take from page) new (unreadable_of d.bench.line unreadable.NotOpened ++ 10 ∷ [])
-      → Leaves was (filed_step was line (Err fault.NotOpened)) old (record { bench = at_line before.bench d.bench.line; shelf = before.shelf }) l one two new
+  pub settled-unopened : (before : Desk) (new : List ℕ) (why : Unreadable) → was.bench ≡ before.bench → was.shelf ≡ before.shelf
+      → Puts (take from page) new (unreadable_of d.bench.line why ++ 10 ∷ [])
+      → Leaves was (filed_step was line (Err (fault.Unread why))) old (record { bench = at_line before.bench d.bench.line; shelf = before.shelf }) l one two new
   unfolding settled_of
-  settled-unopened before new eb es p =
-      let bytes = was.answers ++ (unreadable_of d.bench.line unreadable.NotOpened ++ 10 ∷ []) in
+  settled-unopened before new why eb es p =
+      let bytes = was.answers ++ (unreadable_of d.bench.line why ++ 10 ∷ []) in
       record {
-        said = unreadable_of d.bench.line unreadable.NotOpened ++ 10 ∷ [];
+        said = unreadable_of d.bench.line why ++ 10 ∷ [];
         state =
             ap (λ (b : Bench). left (at_line b d.bench.line) before.shelf l one two bytes) (sym eb)
             ∙ ap (λ (k : Shelf). left (at_line was.bench d.bench.line) k l one two bytes) (sym es)
-            ∙ ap (λ (s : State). left (at_line was.bench s.bench.line) was.shelf s.lent s.one s.two (was.answers ++ (unreadable_of s.bench.line unreadable.NotOpened ++ 10 ∷ []))) x.state;
-        shows = over p (unopened-short d.bench.line unreadable.NotOpened);
+            ∙ ap (λ (s : State). left (at_line was.bench s.bench.line) was.shelf s.lent s.one s.two (was.answers ++ (unreadable_of s.bench.line why ++ 10 ∷ []))) x.state;
+        shows = over p (unopened-short d.bench.line why);
       }

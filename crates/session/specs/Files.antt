@@ -2,7 +2,6 @@
 use Rattle.std.specs.Prelude.{ℕ, Bool, cond, ◌||◌, List, [], ◌∷◌, ◌++◌, ltb, Result, Ok, Err, ⊤}
 use Rattle.figures.specs.Figures.{text}
 use Rattle.page.specs.Page.{unreadable_of}
-use Rattle.words.specs.declared.Unreadable.TheVariants as unreadable
 use Rattle.bench_lines.specs.declared.desk.Bench.{Bench}
 use Rattle.bench_lines.specs.Steps.{State, step_of}
 use Rattle.bench_lines.specs.Claims.{left}
@@ -25,8 +24,8 @@ at_line b line =
 unfoldable pub settled_of : State → State → Result ⊤ Fault → State
 settled_of was s (Ok done) = s
 settled_of was s (Err fault.NotWritten) = left s.bench s.shelf s.lent s.one s.two (was.answers ++ text "door.log not written\n")
-settled_of was s (Err fault.NotOpened) =
-    left (at_line was.bench s.bench.line) was.shelf s.lent s.one s.two (was.answers ++ (unreadable_of s.bench.line unreadable.NotOpened ++ 10 ∷ []))
+settled_of was s (Err (fault.Unread why)) =
+    left (at_line was.bench s.bench.line) was.shelf s.lent s.one s.two (was.answers ++ (unreadable_of s.bench.line why ++ 10 ∷ []))
 
 -- a line, and the file's answer
 abbrev pub filed_step : State → List ℕ → Result ⊤ Fault → State

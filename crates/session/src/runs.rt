@@ -1,14 +1,16 @@
 // Lines one after the other, while the page has room.
 
-ghost use Rattle.std.specs.Prelude.{ℕ, ◌≤◌, ◌<◌, true, List, ◌≡◌, length, IfSome};
-ghost use Rattle.bench_lines.specs.Claims.{left};
+ghost use Rattle.std.specs.Prelude.{ℕ, ◌+◌, ◌≤◌, ◌<◌, true, List, ◌≡◌, leb, length, Some, IfSome};
+ghost use Rattle.page.specs.Page.{size};
+ghost use Rattle.linewise.specs.Texts.{going};
+ghost use Rattle.bench_lines.specs.Claims.{left, longest};
 ghost use Rattle.bench_lines.specs.Desk.{Sound, Stable};
 ghost use Rattle.bench_lines.specs.Named.{lent};
 ghost use Rattle.bench_lines.specs.Steps.{Held};
 ghost use Rattle.session.specs.Files.{asks_of};
 ghost use Rattle.session.specs.Runs.{roomy_of, Rests, Goes};
 
-use bench_lines::desk::{Bench, Desk};
+use bench_lines::desk::{Bench, Desk, Shelf};
 use bench_lines::named::Later;
 use bench_lines::shelved::shelved;
 use bench_lines::turns::turn;
@@ -36,11 +38,18 @@ pub struct Went {
     pub asked: Option<Asked>,
 }
 
+// Has a page that is written up to a place room for the longest answer.
+pub fn roomy_at(at: usize) -> bool
+    ensures { result ≡ leb (at + longest) size }
+{
+    at <= SIZE - ANSWER
+}
+
 // Has the page room for the longest answer.
 pub fn roomy(page: &Page) -> bool
     ensures { result ≡ roomy_of page.now }
 {
-    page.len() <= SIZE - ANSWER
+    roomy_at(page.len())
 }
 
 // Does a line ask something of the file: that it is begun anew, or takes bytes.
@@ -51,22 +60,43 @@ fn asks(b: Bench) -> bool
     b.anew | (b.kept > 0)
 }
 
-// Works what a line asks of the shelf, if it does.
+// Works what a line asks of the shelf.
 fn rest_of(
-    d: Desk,
-    later: Option<Later>,
+    bench: Bench,
+    shelf: Shelf,
+    later: Later,
     page: &mut Page,
     line: &Line,
     room: &mut Room,
     one: &mut Room,
     two: &mut Room,
 ) -> Desk
-    requires { (Sound d.bench) × (Stable d.shelf) × IfSome later (λ q. q.end ≤ length line.now) }
-    ensures { (Sound result.bench) × (Stable result.shelf) × Rests later d line.now page.old page.new room.old one.old two.old room.new one.new two.new result }
+    requires { (Sound bench) × (Stable shelf) × (later.end ≤ length line.now.bytes) }
+    ensures { (Sound result.bench) × (Stable result.shelf) × Rests (Some later) (record { bench = bench; shelf = shelf }) line.now.bytes page.old page.new room.old one.old two.old room.new one.new two.new result }
 {
-    match later {
-        Some(later) => shelved(d, page, line.held(), later, room, one, two),
-        None => d,
+    let desk = Desk { bench, shelf };
+    shelved(desk, page, line.held(), later, room, one, two)
+}
+
+// What a line that asks something of the file leaves, and what was before it.
+fn stopped(
+    before: Bench,
+    spare: Shelf,
+    from: usize,
+    bench: Bench,
+    shelf: Shelf,
+    next: usize,
+) -> Went
+    ensures { result ≡ record { desk = record { bench = bench; shelf = shelf }; next = next; asked = Some (record { before = record { bench = before; shelf = spare }; from = from }) } }
+{
+    let before = Desk {
+        bench: before,
+        shelf: spare,
+    };
+    Went {
+        desk: Desk { bench, shelf },
+        next,
+        asked: Some(Asked { before, from }),
     }
 }
 
@@ -84,30 +114,34 @@ pub fn lines(
     page: &mut Page,
 ) -> Went
     requires { (Sound d.bench) × (Stable d.shelf) × (start < length input.now) }
-    ensures { ((answers bytes : List ℕ) → Held line.old bytes → Goes (left d.bench d.shelf (lent room.old area.old items.old) one.old two.old answers) bytes input.now start page.old result (lent room.new area.new items.new) one.new two.new line.new page.new) × (start ≤ result.next) × (result.next ≤ length input.now) × (roomy_of page.old ≡ true → start < result.next) × (Sound result.desk.bench) × (Stable result.desk.shelf) × IfSome result.asked (λ a. (Sound a.before.bench) × Stable a.before.shelf) }
+    ensures { ((answers bytes : List ℕ) → Held (going line.old) bytes → Goes (left d.bench d.shelf (lent room.old area.old items.old) one.old two.old answers) bytes input.now start page.old result (lent room.new area.new items.new) one.new two.new (going line.new) page.new) × (start ≤ result.next) × (result.next ≤ length input.now) × (roomy_of page.old ≡ true → start < result.next) × (Sound result.desk.bench) × (Stable result.desk.shelf) × IfSome result.asked (λ a. (Sound a.before.bench) × Stable a.before.shelf) }
 {
-    let mut desk = d;
+    let mut b = d.bench;
+    let mut shelf = d.shelf;
     let mut next = start;
     while (next < input.len()) & roomy(page) {
-        let before = desk;
         let from = page.len();
-        let t = turn(desk.bench, page, input, next, line, room, area, items);
+        let t = turn(b, page, input, next, line, room, area, items);
         next = t.next;
-        desk.bench = t.bench;
-        desk = rest_of(desk, t.later, page, line, room, one, two);
-        if t.ended {
-            line.clear();
-            if asks(desk.bench) {
-                return Went {
-                    desk,
-                    next,
-                    asked: Some(Asked { before, from }),
-                };
+        let bench = t.bench;
+        if let Some(later) = t.later {
+            let spare = shelf;
+            let left = rest_of(bench, shelf, later, page, line, room, one, two);
+            if asks(left.bench) {
+                return stopped(b, spare, from, left.bench, left.shelf, next);
             }
+            b = left.bench;
+            shelf = left.shelf;
+        } else if t.ended {
+            if asks(bench) {
+                let spare = shelf;
+                return stopped(b, spare, from, bench, shelf, next);
+            }
+            b = bench;
         }
     }
     Went {
-        desk,
+        desk: Desk { bench: b, shelf },
         next,
         asked: None,
     }

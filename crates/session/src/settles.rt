@@ -12,10 +12,10 @@ use bench_lines::desk::Desk;
 use page::Page;
 use words::Unreadable;
 
-// Why the file did not do what a line asks: it cannot be opened, or it did not take a call's records.
+// Why the file did not do what a line asks: the line cannot be read, as where the file cannot be opened, or the file did not take a call's records.
 #[derive(Clone, Copy, PartialEq, Eq)]
 pub enum Fault {
-    NotOpened,
+    Unread(Unreadable),
     NotWritten,
 }
 
@@ -31,10 +31,10 @@ fn failed(d: Desk, asked: Asked, fault: Fault, page: &mut Page) -> Desk
             page.text(b"door.log not written\n");
             d
         }
-        Fault::NotOpened => {
+        Fault::Unread(why) => {
             let mut desk = asked.before;
             desk.bench.line = d.bench.line;
-            page.unreadable(desk.bench.line, Unreadable::NotOpened);
+            page.unreadable(desk.bench.line, why);
             page.byte(b'\n');
             desk
         }

@@ -1,7 +1,7 @@
 // A file that is read chunk by chunk.
 
 ghost use Rattle.std.specs.Prelude.{◌+◌, ◌<◌, ◌^◌, ◌≡◌, length, IfSome, unwrap_or};
-ghost use Rattle.soak.specs.Input.{missing, opened, more, failed, after_read, Reads};
+ghost use Rattle.soak.specs.Input.{missing, opened, more, failed, ended, after_read, Reads};
 ghost use Rattle.soak.specs.Passes.{second_refusal};
 
 use crate::refusal::Refusal;
@@ -41,7 +41,7 @@ pub struct Reader {
 
 impl Input {
     // A file that could not be opened.
-    pub fn missing() -> Input
+    pub(crate) fn missing() -> Input
         ensures { result ≡ missing }
     {
         Input {
@@ -51,7 +51,7 @@ impl Input {
     }
 
     // Whether there may be more to read: not after a failure, at the file's end, or past the longest log.
-    fn more(self) -> bool
+    pub fn more(self) -> bool
         ensures { result ≡ more self }
     {
         self.state == State::Open && self.bytes <= LONGEST
@@ -85,11 +85,18 @@ impl Input {
         self.state == State::Missing || self.state == State::Failed
     }
 
+    // Whether the file was read to its end.
+    pub fn ended(self) -> bool
+        ensures { result ≡ ended self }
+    {
+        self.state == State::Ended
+    }
+
     // Why a file is refused that has to be read to its end.
     pub fn cut_short(self) -> Option<Refusal>
         ensures { result ≡ second_refusal self }
     {
-        if self.state == State::Ended {
+        if self.ended() {
             None
         } else {
             Some(Refusal::Unreadable)

@@ -1,5 +1,5 @@
 -- Which of the timer's lines a line is, by its first word.
-use Rattle.std.specs.Prelude.{ℕ, false, true, cond, List, Option, Some, None, option_map}
+use Rattle.std.specs.Prelude.{ℕ, false, true, cond, eqb, ltb, List, Option, Some, None, option_map}
 use Rattle.std.specs.Str.{bytes_eq}
 use Rattle.figures.specs.Figures.{text}
 use Rattle.counter.specs.declared.state.Timer.{Timer}
@@ -7,8 +7,16 @@ use Rattle.timer_lines.specs.declared.asked.Name.{Name}
 use Rattle.timer_lines.specs.declared.asked.Name.TheVariants as name
 use Rattle.timer_lines.specs.declared.named.Command.{Command}
 use Rattle.timer_lines.specs.declared.named.Command.TheVariants as command
+use Rattle.timer_lines.specs.Asked.{name_at}
 use Rattle.timer_lines.specs.Called.{Lined, saying, call_line}
 use Rattle.timer_lines.specs.Shown.{state_line, shift_line}
+
+-- the command of each place among the names: the calls, then `state`, `distance` and `shift`; behind them `state`
+unfoldable pub command_at : ℕ → Command
+command_at place =
+    cond (ltb place 18) (command.Call (name_at place))
+    (cond (eqb place 19) command.Distance
+    (cond (eqb place 20) command.Shift command.State))
 
 -- the calls
 unfoldable pub call_named : List ℕ → Option Name

@@ -1,12 +1,12 @@
 // A call as a line asks for it.
 
 ghost use Rattle.std.specs.Prelude.{◌≤◌, ◌≡◌, IfOk};
-ghost use Rattle.timer_lines.specs.Asked.{kinds_of, word_of, call_of, asked_of};
+ghost use Rattle.timer_lines.specs.Asked.{name_at, kinds_of, word_of, call_of, asked_of};
 
 use timer::calls::Call;
 use words::{Taken, Unreadable, decimal, exactly, hexadecimal, low8, low16};
 
-// The calls by their names.
+// The calls by their names; beyond them an edge without its level, which is 0: its word is counted, but not read.
 #[derive(Clone, Copy)]
 pub enum Name {
     Advance,
@@ -27,14 +27,16 @@ pub enum Name {
     Tsm,
     Write,
     Edge,
+    Beyond,
 }
 
-// What a word of a call is: a decimal or a hexadecimal byte, or sixteen bits, which are an address or PRR1:PRR0.
+// What a word of a call is: a decimal or a hexadecimal byte, or sixteen bits, which are an address or PRR1:PRR0; one that is not read is counted alone.
 #[derive(Clone, Copy)]
 enum Kind {
     Decimal,
     Hexadecimal,
     Sixteen,
+    Unread,
 }
 
 // A call with its cycle and the area's size.
@@ -43,6 +45,36 @@ pub struct Asked {
     pub call: Call,
     pub cycle: u64,
     pub size: usize,
+}
+
+impl Name {
+    // The call of a place among the names, in their order.
+    #[tactic(auto, unfolding(crate::specs::Asked::name_at))]
+    pub fn at(place: usize) -> Name
+        ensures { result ≡ name_at place }
+    {
+        match place {
+            0 => Name::Advance,
+            1 => Name::Next,
+            2 => Name::Reset,
+            3 => Name::Wake,
+            4 => Name::Tifr,
+            5 => Name::Timsk,
+            6 => Name::Read,
+            7 => Name::Peek,
+            8 => Name::Prr,
+            9 => Name::Wtifr,
+            10 => Name::Wtimsk,
+            11 => Name::Presc,
+            12 => Name::Route,
+            13 => Name::Acout,
+            14 => Name::Sleep,
+            15 => Name::Tsm,
+            16 => Name::Write,
+            17 => Name::Edge,
+            _ => Name::Beyond,
+        }
+    }
 }
 
 // The words that a call has before its cycle and its size.
@@ -59,10 +91,11 @@ fn kinds(name: Name) -> (Option<Kind>, Option<Kind>)
         Name::Route | Name::Acout | Name::Sleep | Name::Tsm => (Some(Kind::Decimal), None),
         Name::Write => (Some(Kind::Sixteen), Some(Kind::Hexadecimal)),
         Name::Edge => (Some(Kind::Decimal), Some(Kind::Decimal)),
+        Name::Beyond => (Some(Kind::Decimal), Some(Kind::Unread)),
     }
 }
 
-// The next word, of a kind; where there is none it is a 0 that takes no word.
+// The next word, of a kind; where there is none, or it is not read, it is a 0 that takes no word.
 #[tactic(auto, unfolding(crate::specs::Asked::word_of))]
 fn word(line: &[u8], at: usize, kind: Option<Kind>) -> Result<Taken, Unreadable>
     ensures { result ≡ word_of line.now at kind }
@@ -71,6 +104,7 @@ fn word(line: &[u8], at: usize, kind: Option<Kind>) -> Result<Taken, Unreadable>
         Some(Kind::Decimal) => decimal(line, at, 0xff),
         Some(Kind::Hexadecimal) => hexadecimal(line, at, 0xff),
         Some(Kind::Sixteen) => hexadecimal(line, at, 0xffff),
+        Some(Kind::Unread) => Ok(Taken { value: 0, end: at }),
         None => Ok(Taken { value: 0, end: at }),
     }
 }
@@ -98,7 +132,7 @@ fn call_of(name: Name, a: u64, b: u64) -> Call
         Name::Sleep => Call::Sleep(low8(a)),
         Name::Tsm => Call::Tsm(low8(a)),
         Name::Write => Call::Write(low16(a), low8(b)),
-        Name::Edge => Call::Edge(low8(a), low8(b)),
+        Name::Edge | Name::Beyond => Call::Edge(low8(a), low8(b)),
     }
 }
 

@@ -3,7 +3,7 @@
 ghost use Rattle.std.specs.Prelude.{◌≤◌, ◌≡◌, length, IfSome};
 ghost use Rattle.counter.specs.Valid.{Valid};
 ghost use Rattle.timer_lines.specs.Called.{Leaves};
-ghost use Rattle.timer_lines.specs.Named.{call_named, named_of, timer_line};
+ghost use Rattle.timer_lines.specs.Named.{command_at, call_named, named_of, timer_line};
 
 use crate::asked::Name;
 use crate::called::{Left, call_line};
@@ -19,6 +19,23 @@ pub enum Command {
     State,
     Distance,
     Shift,
+}
+
+impl Command {
+    // The command of a place among the names: the calls, then `state`, `distance` and `shift`; behind them it is `state`.
+    #[tactic(auto, unfolding(crate::specs::Named::command_at))]
+    pub fn at(place: usize) -> Command
+        ensures { result ≡ command_at place }
+    {
+        if place < 18 {
+            return Command::Call(Name::at(place));
+        }
+        match place {
+            19 => Command::Distance,
+            20 => Command::Shift,
+            _ => Command::State,
+        }
+    }
 }
 
 // The call of a line's first word.

@@ -8,7 +8,7 @@ use words::{Unreadable, decimal, exactly, find, hexadecimal, low8, place, skip};
 
 // The commands: the calls, then `new` and `state`.
 #[derive(Clone, Copy, PartialEq, Eq)]
-enum Command {
+pub enum Command {
     Advance,
     Write,
     Next,
@@ -27,9 +27,9 @@ pub enum Asked {
     Call { call: Call, cycle: u64, size: usize },
 }
 
-// The command of a place among the names.
+// The command of a place among the names; behind them it is `state`.
 #[tactic(auto, unfolding(crate::specs::Asked::command_of))]
-fn command_at(place: usize) -> Command
+pub fn command_at(place: usize) -> Command
     ensures { result ≡ command_of place }
 {
     match place {
@@ -98,9 +98,9 @@ fn alone(line: &[u8], at: usize, asked: Asked) -> Result<Asked, Unreadable>
     Ok(asked)
 }
 
-// What follows a command.
+// What follows a command, from the place after its name.
 #[tactic(auto, unfolding(crate::specs::Asked::asked_of))]
-fn following(line: &[u8], at: usize, command: Command) -> Result<Asked, Unreadable>
+pub fn following(line: &[u8], at: usize, command: Command) -> Result<Asked, Unreadable>
     ensures { (IfOk result Sized) × (result ≡ asked_of line.now at command) }
 {
     match command {

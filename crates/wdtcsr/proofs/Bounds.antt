@@ -3,7 +3,7 @@ use Rattle.std.proofs.Common.{ℕ, ◌+◌, ◌≤◌, ◌<◌, ◌^◌, ◌≡�
 use Rattle.std.proofs.Math.Pow.{pow_mono}
 use Rattle.wdtcsr.specs.declared.state.Moving.{Moving}
 use Rattle.wdtcsr.specs.State.{running, Sound}
-use Rattle.wdtcsr.specs.Timeouts.{period_of, resets, timed_out, gap_of, is_quiet}
+use Rattle.wdtcsr.specs.Timeouts.{period_of, resets, timed_out, linear, gap_of, is_quiet}
 use Rattle.wdtcsr.proofs.Ticks.{cond-case, quiet-gap}
 
 pub period-upto : (p : ℕ) → p < 10 → period_of p ≤ 2 ^ 20
@@ -18,6 +18,16 @@ gap-small m y = let h = period-upto m.control.wdp y.wdp in omega arith
 pub count_small : (n : ℕ) (m : Moving) → Sound m → running m ≡ true → is_quiet n m ≡ true → m.count + n < 2 ^ 20
 unfolding gap_of
 count_small n m y r h = let g = quiet-gap n m r h in let p = period-upto m.control.wdp y.wdp in let c = y.count in omega arith
+
+-- and leave what the oscillator keeps
+pub linear-sound : (n : ℕ) (m : Moving) → Sound m → is_quiet n m ≡ true → Sound (linear n m)
+unfolding linear
+linear-sound n m y h =
+    record {
+      count = cond-case (λ (k : ℕ). k < 2 ^ 20) (running m) (λ r. count_small n m y r h) (λ r. y.count);
+      wdp = y.wdp;
+      stopped = λ r. rw r (y.stopped r);
+    }
 
 -- a time-out leaves what the oscillator keeps
 pub timed-out-sound : (m : Moving) → Sound m → Sound (timed_out m)

@@ -44,11 +44,11 @@ pub digit_less : (radix b d : ℕ) → digit_of radix b ≡ Some d → d < radix
 unfolding digit_of
 digit_less radix b d h = go (among 48 57 b) (among 65 70 b) (among 97 102 b) h
   where
-    go : (t u v : Bool) → ◌≡◌ {A = Option ℕ} (cond t (below radix (b - 48)) (cond u (below radix (b - 65 + 10)) (cond v (below radix (b - 97 + 10)) None))) (Some d) → d < radix
+    go : (t u v : Bool) → ◌≡◌ {A = Option ℕ} (cond t (below radix (b - 48)) (cond u (below radix (b - 65 + 10)) (cond v (below radix (b - 97 + 10)) (below radix 16)))) (Some d) → d < radix
     go true u v q = below-less radix (b - 48) d q
     go false true v q = below-less radix (b - 65 + 10) d q
     go false false true q = below-less radix (b - 97 + 10) d q
-    go false false false q = absurd (false≢true (ap is_some q))
+    go false false false q = below-less radix 16 d q
 
 -- one digit more
 pub extended_more : (radix n d : ℕ) (l : List ℕ) (i : ℕ) → i < length l → digit_of radix (get_or l i 0) ≡ Some d → extended radix n (take (i + 1) l) ≡ extended radix n (take i l) * radix + d

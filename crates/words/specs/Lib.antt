@@ -1,3 +1,4 @@
+pub mod Reasons
 pub mod Words
 pub mod Numbers
 pub mod Decimals

@@ -14,9 +14,9 @@ among low high b = nat_le low b && nat_le b high
 abbrev pub below : ℕ → ℕ → Option ℕ
 below radix n = cond (nat_lt n radix) (Some n) None
 
--- what a digit of a radix is worth, in either case of a to f
+-- what a digit of a radix is worth, in either case of a to f; a byte that is none is worth 16
 unfoldable pub digit_of : ℕ → ℕ → Option ℕ
-digit_of radix b = cond (among 48 57 b) (below radix (b - 48)) (cond (among 65 70 b) (below radix (b - 65 + 10)) (cond (among 97 102 b) (below radix (b - 97 + 10)) None))
+digit_of radix b = cond (among 48 57 b) (below radix (b - 48)) (cond (among 65 70 b) (below radix (b - 65 + 10)) (cond (among 97 102 b) (below radix (b - 97 + 10)) (below radix 16)))
 
 -- every byte is a digit of the radix
 unfoldable pub all_digits : ℕ → List ℕ → Bool

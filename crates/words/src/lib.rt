@@ -6,6 +6,7 @@ pub mod volts;
 
 ghost use Rattle.std.specs.Prelude.{◌≡◌, ◌+◌, ◌*◌, ◌%◌, ◌<◌, ◌≤◌, min, length, drop, IfOk, IfSome};
 ghost use Rattle.words.specs.Words.{sought, first_from, find_of, skip_of, words, exactly_of, place_of, split_of};
+ghost use Rattle.words.specs.Reasons.{numbered};
 ghost use Rattle.words.specs.Numbers.{digit_of, longer_of, numeral_of, next_of};
 
 // Why a line cannot be read.
@@ -20,6 +21,26 @@ pub enum Unreadable {
     TooLarge,
     TooLong,
     NotOpened,
+}
+
+impl Unreadable {
+    // The reason of a number, too long of every other.
+    #[tactic(auto, unfolding(crate::specs::Reasons::numbered))]
+    pub fn numbered(why: u8) -> Unreadable
+        ensures { result ≡ numbered why }
+    {
+        match why {
+            1 => Unreadable::UnknownCommand,
+            2 => Unreadable::UnknownKey,
+            3 => Unreadable::UnknownName,
+            4 => Unreadable::MissingWord,
+            5 => Unreadable::ExtraWord,
+            6 => Unreadable::Malformed,
+            7 => Unreadable::TooLarge,
+            9 => Unreadable::NotOpened,
+            _ => Unreadable::TooLong,
+        }
+    }
 }
 
 // A number of a line, and where its word ends.
@@ -124,7 +145,7 @@ pub fn split(names: &[u8], word: &[u8]) -> Option<Pair>
     })
 }
 
-// The value of a digit of a radix.
+// The value of a digit of a radix; a byte that is no digit has the value 16.
 #[tactic(auto, unfolding(crate::specs::Numbers::digit_of))]
 fn digit(b: u8, radix: u64) -> Option<u64>
     ensures { result ≡ digit_of radix b }
@@ -133,7 +154,7 @@ fn digit(b: u8, radix: u64) -> Option<u64>
         b'0'..=b'9' => b - b'0',
         b'A'..=b'F' => b - b'A' + 10,
         b'a'..=b'f' => b - b'a' + 10,
-        _ => return None,
+        _ => 16,
     };
     let value = value as u64;
     if value < radix { Some(value) } else { None }

@@ -3,7 +3,7 @@ use Rattle.linewise.specs.declared.Reached.{Reached}
 use Rattle.bench_lines.specs.declared.named.Later.{Later}
 use Rattle.bench_lines.specs.Named.{Asking, Hears, lent}
 use Rattle.bench_lines.specs.Steps.{so_far}
-use Rattle.bench_lines.proofs.Feeding.{held_more}
+use Rattle.bench_lines.proofs.Feeding.{held_more, held_on}
 use Rattle.bench_lines.proofs.Hearing.{hears_none}
 use Rattle.bench_lines.proofs.Stepping.{first_within, first_held, first_asked, turn_feeds}
 use Rattle.bench_lines.proofs.turns.turn.Goals as goal
@@ -18,13 +18,16 @@ returns c =
       tt,
       c.cut-reached.ensures.0,
       c.cut-reached.ensures.1,
-      λ bytes h. record {
-        cut = (ap (λ (x : Reached). x.at) cuts.cut, sym e ∙ ap (λ (x : Reached). x.ended) cuts.cut);
-        feeds = λ s. turn_feeds s bytes a.input.now a.start r false c.requires.1 cuts.cut e;
-        hears = hears_none a.b a.page.now a.room.now a.area.now a.items.now c.requires.0;
-        held = held_more _ _ bytes _ h cuts.held;
-        asked = tt;
-      },
+      λ bytes h.
+          let more = held_more _ _ bytes _ h cuts.held in
+          record {
+            cut = (ap (λ (x : Reached). x.at) cuts.cut, sym e ∙ ap (λ (x : Reached). x.ended) cuts.cut);
+            feeds = λ s. turn_feeds s bytes a.input.now a.start r false c.requires.1 cuts.cut e;
+            hears = hears_none a.b a.page.now a.room.now a.area.now a.items.now c.requires.0;
+            held = more;
+            kept = held_on c.cut-reached.new.self (so_far bytes a.input.now a.start) false (c.cut-reached.ensures.3 ∙ e) more;
+            asked = tt;
+          },
     )
 
 pub returns-then-reached : goal.returns-then-reached
@@ -32,7 +35,8 @@ returns-then-reached c =
     let a = c.args in
     let r = c.cut-reached.result in
     let cuts = c.cut-reached.ensures.2 in
-    let line = c.cut-reached.new.self in
+    let text = c.cut-reached.new.self in
+    let line = text.bytes in
     let l = lent a.room.now a.area.now a.items.now in
     let hears = c.step-heard.ensures in
     let e : r.ended ≡ true = c.if-reached.true in (
@@ -48,6 +52,7 @@ returns-then-reached c =
             feeds = λ s. turn_feeds s bytes a.input.now a.start r true c.requires.1 cuts.cut e;
             hears = subst (λ (x : Asking). Hears x a.page.now c.step-heard.new.page c.step-heard.new.room c.step-heard.new.area c.step-heard.new.items c.step-heard.result) (first_held line ln more a.b l) hears;
             held = more;
+            kept = held_on text ln true (c.cut-reached.ensures.3 ∙ e) more;
             asked = subst (λ (o : Option Later). IfSome o (λ q. take q.end line ≡ take q.end ln)) (sym hears.later) (first_asked line ln more a.b l);
           },
     )

@@ -2,7 +2,7 @@
 use Rattle.std.proofs.Common.{◌≡◌, ◌%◌, arith, rules, length, take}
 use Rattle.figures.specs.Figures.{codes}
 use Rattle.list_lines.specs.Lists.{of_list}
-use Rattle.list_lines.proofs.Working.{part_worked, own_worked, not_tens}
+use Rattle.list_lines.proofs.Working.{part_worked, own_worked, not_tens, emptied}
 use Rattle.list_lines.proofs.worked.heard.Goals as goal
 
 pub returns-in-Some-Some : goal.returns-in-Some-Some
@@ -17,8 +17,8 @@ pub returns-in-None-Some : goal.returns-in-None-Some
 unfolding of_list
 returns-in-None-Some c =
     let a = c.args in
-    rw (c.in-None-Some.is-0, c.in-None-Some.is-1, c.clear.ensures)
-    (part_worked _ _ _ _ _ (length (take a.asked.size a.area.now)) (search rules) (rw (← c.as_slice-in-None-Some.ensures) (c.worked-left.ensures _)))
+    rw (c.in-None-Some.is-0, c.in-None-Some.is-1)
+    (emptied (search rules) (part_worked _ _ _ _ _ (length (take a.asked.size a.area.now)) (search rules) (rw (← c.as_slice-in-None-Some.ensures) (c.worked-left.ensures _))))
 
 pub returns-in-Some-default : goal.returns-in-Some-default
 unfolding codes of_list

@@ -4,7 +4,7 @@ use native.Mathlib.Omega.{arith}
 use mathlib.Core.Logic.{inl, inr}
 use mathlib.Core.Path.{refl, sym, ◌∙◌}
 use lib.ListN.{length}
-use Rattle.session.proofs.Going.{goes_on, reads_none, reads_on, reads-ended, asks-ended}
+use Rattle.session.proofs.Going.{goes_on, reads_none, rests-none, rests-some, reads_on, asked-ended, reads-ended, asks-ended}
 use Rattle.session.proofs.runs.lines.Goals as goal
 
 pub loop-next-init : goal.loop-next-init
@@ -23,31 +23,31 @@ returns-then-asks c =
     let l = c.loop-next in
     let turn = c.turn-t in
     let t = turn.result in
-    let r = c.rest_of-desk in
-    let g = goes_on l.next (length a.input.now) l.page c.roomy.result c.roomy.ensures c.loop-next-test.true in (
+    let g = goes_on l.next (length a.input.now) l.page c.roomy.result c.roomy.ensures c.loop-next-test.true in
+    rw c.stopped.ensures (
       λ answers bytes h.
           let x = l.invariant.5 answers bytes h in
           let w = turn.ensures.4 x.rest x.held in
           let k : l.next ≤ t.next = omega (arith, turn.ensures.2) in
-          rw (c.len-from.ensures, c.clear.ensures) (asks-ended _ bytes a.input.now a.start l.next _ _ _ _ _ _ _ x l.invariant.2 g.0 _ _ _ _ _ t w k _ _ _ _ _ r.ensures.2 c.if-t.true g.1 (sym c.asks.ensures ∙ c.if-asks.true)),
+          let e = asked-ended _ bytes a.input.now a.start l.next _ _ _ _ _ _ _ x l.invariant.2 g.0 _ _ _ _ _ t w k _ c.in-Some.is in
+          rw c.len-from.ensures (asks-ended _ bytes a.input.now a.start l.next _ _ _ _ _ _ _ x l.invariant.2 g.0 _ _ _ _ _ t w k _ _ _ _ _ (rests-some t.later _ _ _ _ _ _ _ _ _ _ _ _ c.in-Some.is c.rest_of-left.ensures.2) e g.1 (sym c.asks.ensures ∙ c.if-asks.true)),
       omega (arith, l.invariant.2, turn.ensures.2),
       turn.ensures.3,
       λ h. omega (arith, l.invariant.2, turn.ensures.2),
-      r.ensures.0,
-      r.ensures.1,
+      c.rest_of-left.ensures.0,
+      c.rest_of-left.ensures.1,
       (l.invariant.0, l.invariant.1),
     )
 
-pub loop-next-preserved-else-asks : goal.loop-next-preserved-else-asks
-loop-next-preserved-else-asks c =
+pub loop-next-preserved-in-Some : goal.loop-next-preserved-in-Some
+loop-next-preserved-in-Some c =
     let a = c.args in
     let l = c.loop-next in
     let turn = c.turn-t in
     let t = turn.result in
-    let r = c.rest_of-desk in
     let g = goes_on l.next (length a.input.now) l.page c.roomy.result c.roomy.ensures c.loop-next-test.true in (
-      r.ensures.0,
-      r.ensures.1,
+      c.rest_of-left.ensures.0,
+      c.rest_of-left.ensures.1,
       omega (arith, l.invariant.2, turn.ensures.2),
       turn.ensures.3,
       inl (omega (arith, l.invariant.2, turn.ensures.2)),
@@ -55,7 +55,48 @@ loop-next-preserved-else-asks c =
           let x = l.invariant.5 answers bytes h in
           let w = turn.ensures.4 x.rest x.held in
           let k : l.next ≤ t.next = omega (arith, turn.ensures.2) in
-          rw c.clear.ensures (reads-ended _ bytes a.input.now a.start l.next _ _ _ _ _ _ _ x l.invariant.2 g.0 _ _ _ _ _ t w k _ _ _ _ _ r.ensures.2 c.if-t.true g.1 (sym c.asks.ensures ∙ c.if-asks.false)),
+          let e = asked-ended _ bytes a.input.now a.start l.next _ _ _ _ _ _ _ x l.invariant.2 g.0 _ _ _ _ _ t w k _ c.in-Some.is in
+          reads-ended _ bytes a.input.now a.start l.next _ _ _ _ _ _ _ x l.invariant.2 g.0 _ _ _ _ _ t w k _ _ _ _ _ (rests-some t.later _ _ _ _ _ _ _ _ _ _ _ _ c.in-Some.is c.rest_of-left.ensures.2) e g.1 (sym c.asks.ensures ∙ c.if-asks.false),
+    )
+
+pub returns-then-asks-2 : goal.returns-then-asks-2
+returns-then-asks-2 c =
+    let a = c.args in
+    let l = c.loop-next in
+    let turn = c.turn-t in
+    let t = turn.result in
+    let g = goes_on l.next (length a.input.now) l.page c.roomy.result c.roomy.ensures c.loop-next-test.true in
+    rw c.stopped-then-asks-2.ensures (
+      λ answers bytes h.
+          let x = l.invariant.5 answers bytes h in
+          let w = turn.ensures.4 x.rest x.held in
+          let k : l.next ≤ t.next = omega (arith, turn.ensures.2) in
+          rw c.len-from.ensures (asks-ended _ bytes a.input.now a.start l.next _ _ _ _ _ _ _ x l.invariant.2 g.0 _ _ _ _ _ t w k _ _ _ _ _ (rests-none t.later _ _ _ _ _ _ c.in_default.is) c.if-t.true g.1 (sym c.asks-then-t.ensures ∙ c.if-asks-2.true)),
+      omega (arith, l.invariant.2, turn.ensures.2),
+      turn.ensures.3,
+      λ h. omega (arith, l.invariant.2, turn.ensures.2),
+      turn.ensures.0,
+      l.invariant.1,
+      (l.invariant.0, l.invariant.1),
+    )
+
+pub loop-next-preserved-then-t : goal.loop-next-preserved-then-t
+loop-next-preserved-then-t c =
+    let a = c.args in
+    let l = c.loop-next in
+    let turn = c.turn-t in
+    let t = turn.result in
+    let g = goes_on l.next (length a.input.now) l.page c.roomy.result c.roomy.ensures c.loop-next-test.true in (
+      turn.ensures.0,
+      l.invariant.1,
+      omega (arith, l.invariant.2, turn.ensures.2),
+      turn.ensures.3,
+      inl (omega (arith, l.invariant.2, turn.ensures.2)),
+      λ answers bytes h.
+          let x = l.invariant.5 answers bytes h in
+          let w = turn.ensures.4 x.rest x.held in
+          let k : l.next ≤ t.next = omega (arith, turn.ensures.2) in
+          reads-ended _ bytes a.input.now a.start l.next _ _ _ _ _ _ _ x l.invariant.2 g.0 _ _ _ _ _ t w k _ _ _ _ _ (rests-none t.later _ _ _ _ _ _ c.in_default.is) c.if-t.true g.1 (sym c.asks-then-t.ensures ∙ c.if-asks-2.false),
     )
 
 pub loop-next-preserved : goal.loop-next-preserved
@@ -64,10 +105,9 @@ loop-next-preserved c =
     let l = c.loop-next in
     let turn = c.turn-t in
     let t = turn.result in
-    let r = c.rest_of-desk in
     let g = goes_on l.next (length a.input.now) l.page c.roomy.result c.roomy.ensures c.loop-next-test.true in (
-      r.ensures.0,
-      r.ensures.1,
+      l.invariant.0,
+      l.invariant.1,
       omega (arith, l.invariant.2, turn.ensures.2),
       turn.ensures.3,
       inl (omega (arith, l.invariant.2, turn.ensures.2)),
@@ -75,5 +115,5 @@ loop-next-preserved c =
           let x = l.invariant.5 answers bytes h in
           let w = turn.ensures.4 x.rest x.held in
           let k : l.next ≤ t.next = omega (arith, turn.ensures.2) in
-          reads_on _ bytes a.input.now a.start l.next _ _ _ _ _ _ _ x l.invariant.2 g.0 _ _ _ _ _ t w k _ _ _ _ _ r.ensures.2 c.if-t.false,
+          reads_on _ bytes a.input.now a.start l.next _ _ _ _ _ _ _ x l.invariant.2 g.0 _ _ _ _ _ t w k c.if-t.false,
     )

@@ -5,6 +5,7 @@ use mathlib.Core.Logic.{◌⊎◌}
 use mathlib.Core.Path.{◌≡◌}
 use lib.ListN.{length}
 use Rattle.words.specs.Numbers.{between}
+use Rattle.linewise.specs.Texts.{going}
 use Rattle.bench_lines.specs.Desk.{Sound, Stable}
 use Rattle.bench_lines.specs.Named.{lent}
 use Rattle.bench_lines.specs.Steps.{Held}
@@ -13,7 +14,7 @@ use Rattle.session.specs.Runs.{Reads}
 use Rattle.session.proofs.runs.lines.Given as goal
 
 abbrev pub invariant-loop-next : goal.invariant-loop-next
-invariant-loop-next l = (Sound l.desk.bench) × (Stable l.desk.shelf) × (l.start ≤ l.next) × (l.next ≤ length l.input) × ((l.start < l.next) ⊎ ((l.next ≡ l.start) × (l.page ≡ l.initial.page))) × ((answers bytes : List ℕ) → Held l.initial.line bytes → Reads (left l.initial.desk.bench l.initial.desk.shelf (lent l.initial.room l.initial.area l.initial.items) l.initial.one l.initial.two answers) bytes (between l.input l.start l.next) l.initial.page l.desk (lent l.room l.area l.items) l.one l.two l.line l.page)
+invariant-loop-next l = (Sound l.b) × (Stable l.shelf) × (l.start ≤ l.next) × (l.next ≤ length l.input) × ((l.start < l.next) ⊎ ((l.next ≡ l.start) × (l.page ≡ l.initial.page))) × ((answers bytes : List ℕ) → Held (going l.initial.line) bytes → Reads (left l.initial.b l.initial.shelf (lent l.initial.room l.initial.area l.initial.items) l.initial.one l.initial.two answers) bytes (between l.input l.start l.next) l.initial.page (record { bench = l.b; shelf = l.shelf }) (lent l.room l.area l.items) l.one l.two (going l.line) l.page)
 
 abbrev pub decreases-loop-next : goal.decreases-loop-next
 decreases-loop-next l = length l.input - l.next
