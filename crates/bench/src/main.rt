@@ -5,7 +5,7 @@
 mod files;
 mod pages;
 
-ghost use Rattle.std.specs.Prelude.{ℕ, List, ◌≡◌, ◌≤◌, length};
+ghost use Rattle.std.specs.Prelude.{ℕ, false, List, ◌≡◌, ◌≤◌, ◌<◌, length};
 ghost use Rattle.linewise.specs.Texts.{going};
 ghost use Rattle.bench_lines.specs.Claims.{left};
 ghost use Rattle.bench_lines.specs.Desk.{Sound, Stable};
@@ -44,7 +44,7 @@ fn piece<R: Files<File = File>, W: Write>(
     page: &mut Page,
 ) -> Desk
     requires { (Sound d.bench) × Stable d.shelf }
-    ensures { (Sound result.bench) × (Stable result.shelf) × ((answers bytes : List ℕ) → Held (going line.old) bytes → Carries (left d.bench d.shelf (lent room.old area.old items.old) one.old two.old answers) bytes input.now result.bench result.shelf (lent room.new area.new items.new) one.new two.new (going line.new)) }
+    ensures { (Sound result.bench) × (Stable result.shelf) × ((answers bytes : List ℕ) → Held (going line.old) bytes → Carries (left d.bench d.shelf (lent room.old area.old items.old) one.old two.old answers) bytes input.now result.bench result.shelf (lent room.new area.new items.new) one.new two.new (going line.new)) × (line.old.ended ≡ false → line.new.ended ≡ false) × (0 < length input.now → line.new.ended ≡ false) }
 {
     let mut desk = d;
     let mut next = 0;

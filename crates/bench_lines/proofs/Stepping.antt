@@ -1,6 +1,7 @@
 -- A line of any length, and what it asks of the shelf.
 use Rattle.std.proofs.Common.{◌≡◌, ℕ, ◌<◌, ◌≤◌, Bool, true, false, cond, eqb, ltb, List, [], ◌∷◌, ◌++◌, length, take, sym, refl, ap, ◌∙◌, subst, arith, length-take, lt-ltb, Option, Some, None, IfSome}
 use native.Mathlib.Decide.{dec_le}
+use borrow.Author.Tests.{ltb-false}
 use Rattle.words.specs.Words.{skip_of, find_of}
 use Rattle.words.specs.Numbers.{between}
 use Rattle.words.specs.declared.Unreadable.TheVariants as unreadable
@@ -65,6 +66,24 @@ first_within b line l =
     let p = plain line in
     let n = length-take (find_of line 0 35) line in
     either (Within (length line)) (ltb 500 (length line)) tt (widened (heard_of (counted b) p l).later (length p) (length line) (omega arith) (heard-within (counted b) p l))
+
+short-long : (b : Bench) (line : List ℕ) (l : Lent) → ltb 500 (length line) ≡ true → Within 500 (first_of b line l)
+unfolding first_of
+short-long b line l h = rw h tt
+
+short-plain : (b : Bench) (line : List ℕ) (l : Lent) → ltb 500 (length line) ≡ false → Within 500 (first_of b line l)
+unfolding first_of
+short-plain b line l h =
+    let p = plain line in
+    rw h (widened (heard_of (counted b) p l).later (length p) 500 (omega (arith, length-take (find_of line 0 35) line, ltb-false 500 (length line) h)) (heard-within (counted b) p l))
+
+-- it lies in what can be read of a line
+pub first_short : (b : Bench) (line : List ℕ) (l : Lent) → Within 500 (first_of b line l)
+first_short b line l = go (ltb 500 (length line)) refl
+  where
+    go : (t : Bool) → ltb 500 (length line) ≡ t → Within 500 (first_of b line l)
+    go true h = short-long b line l h
+    go false h = short-plain b line l h
 
 -- a line that is too long asks for nothing
 first-none : (b : Bench) (line : List ℕ) (l : Lent) → 500 < length line → (first_of b line l).later ≡ None

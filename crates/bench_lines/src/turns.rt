@@ -109,7 +109,7 @@ pub fn turn(
     items: &mut Items,
 ) -> Turned
     requires { (Sound b) × (start < length input.now) }
-    ensures { (Sound result.bench) × IfSome result.later (λ q. q.end ≤ length line.new.bytes) × (start < result.next) × (result.next ≤ length input.now) × ((bytes : List ℕ) → Held (going line.old) bytes → Turns b (lent room.old area.old items.old) bytes input.now start page.old page.new room.new area.new items.new line.new result) }
+    ensures { (Sound result.bench) × IfSome result.later (λ q. q.end ≤ length line.new.bytes) × (start < result.next) × (result.next ≤ length input.now) × ((bytes : List ℕ) → Held (going line.old) bytes → Turns b (lent room.old area.old items.old) bytes input.now start page.old page.new room.new area.new items.new line.new result) × (line.new.ended ≡ result.ended) × IfSome result.later (λ q. q.end ≤ 500) }
 {
     let reached = line.cut(input, start);
     if reached.ended {

@@ -66,7 +66,7 @@ impl Rule {
         match self {
             Rule::One { hold } => in_range(hold),
             Rule::Two { hold, quiet, cap } => {
-                in_range(hold) && in_range(quiet) && in_range(cap) && (hold <= cap)
+                in_range(hold) & in_range(quiet) & in_range(cap) & (hold <= cap)
             }
         }
     }

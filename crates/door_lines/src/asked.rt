@@ -1,7 +1,7 @@
 // What a door's line asks for.
 
 ghost use Rattle.std.specs.Prelude.{◌≡◌};
-ghost use Rattle.door_lines.specs.Asked.{one_of, two_of, edge_of, asked_of};
+ghost use Rattle.door_lines.specs.Asked.{one_of, two_of, edge_of, behind_of, placed_of, asked_of, rule_of};
 
 use door::Rule;
 use time::units::Cycle;
@@ -50,7 +50,34 @@ pub fn edge(line: &[u8], at: usize) -> Result<Asked, Unreadable>
     Ok(Asked::Edge(Cycle(cycle.value)))
 }
 
+// A name behind these three, from the place after it: its hold, as of rule two without a quiet time or a cap.
+#[tactic(auto, unfolding(crate::specs::Asked::behind_of, words::specs::Words::and_then))]
+fn behind(line: &[u8], at: usize) -> Result<Asked, Unreadable>
+    ensures { result ≡ behind_of line.now at }
+{
+    exactly(line, at, 1)?;
+    let hold = decimal(line, at, u64::MAX)?;
+    Ok(Asked::Rule(Rule::Two {
+        hold: hold.value,
+        quiet: 0,
+        cap: 0,
+    }))
+}
+
 impl Asked {
+    // What a line asks for by the place of its name among `one`, `two` and `edge`, from the place after it.
+    #[tactic(auto, unfolding(crate::specs::Asked::placed_of))]
+    pub fn placed(line: &[u8], at: usize, place: usize) -> Result<Asked, Unreadable>
+        ensures { result ≡ placed_of line.now at place }
+    {
+        match place {
+            0 => one(line, at),
+            1 => two(line, at),
+            2 => edge(line, at),
+            _ => behind(line, at),
+        }
+    }
+
     // What a line asks for, from the place after `door`.
     #[tactic(auto, unfolding(crate::specs::Asked::asked_of, figures::specs::Figures::codes))]
     pub fn of(line: &[u8], at: usize) -> Result<Asked, Unreadable>
@@ -66,6 +93,21 @@ impl Asked {
             b"two" => two(line, end),
             b"edge" => edge(line, end),
             _ => Err(Unreadable::UnknownCommand),
+        }
+    }
+
+    // The rule that a line sets; of an edge, rule two with its cycle as the hold.
+    #[tactic(auto, unfolding(crate::specs::Asked::rule_of))]
+    pub fn rule(self) -> Rule
+        ensures { result ≡ rule_of self }
+    {
+        match self {
+            Asked::Rule(rule) => rule,
+            Asked::Edge(cycle) => Rule::Two {
+                hold: cycle.0,
+                quiet: 0,
+                cap: 0,
+            },
         }
     }
 }

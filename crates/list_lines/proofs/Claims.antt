@@ -59,7 +59,7 @@ timer-short None items left list size area h = said _ (omega arith)
 
 list-short : (t : Option Timer) (items : List ℕ) (list : Option (List ℕ)) (size : ℕ) (area : List ℕ) → size ≤ 4096 → Brief (of_list t items list size area)
 unfolding of_list of_bytes
-list-short t items (Some list) size area h = either Brief (eqb (length list % 10) 0) (timer-short t items items list size area h) (said _ (omega arith))
+list-short t items (Some list) size area h = either Brief _ (timer-short t items items list size area h) (said _ (omega arith))
 list-short t items None size area h = timer-short t items [] items size area h
 
 -- at most 4,096 bytes are asked for

@@ -67,7 +67,7 @@ impl Page {
         ensures { self.new ≡ take len self.old }
     {
         if len < self.len {
-            self.bytes[len..].fill(0);
+            self.bytes[len..self.len].fill(0);
             self.len = len;
         }
     }

@@ -2,7 +2,7 @@
 
 ghost use Rattle.std.specs.Prelude.{◌≡◌, ℕ, List};
 ghost use Rattle.watchdog.specs.declared.calls.Call.{Call};
-ghost use Rattle.oscillator.specs.State.{Valid};
+ghost use Rattle.oscillator.specs.State.{Valid, accepted_at};
 ghost use Rattle.watchdog.specs.Outcome.{refused, values_of, heard};
 ghost use Rattle.replies.specs.Watchdogs.{report_of, watched_of, Reported};
 
@@ -51,16 +51,26 @@ impl Report {
         }
     }
 
-    // Yields a refusal's number as a report: no value, nothing written.
-    fn refused(number: u8) -> Report
-        ensures { result ≡ report_of number refused 0 }
+    // Yields a refusal's number as a report, which has no value, and how many bytes were written.
+    fn refused(number: u8, written: usize) -> Report
+        ensures { result ≡ report_of number refused written }
     {
         Report {
             number,
             what: 0,
             value: 0,
-            written: 0,
+            written: written as u64,
         }
+    }
+}
+
+// Yields a watchdog, and beside it a refusal by its number, whatever that is, and how many bytes were written.
+pub fn refused_having_written(w: Watchdog, number: u8, written: usize) -> Watched
+    ensures { result ≡ record { watchdog = w; report = report_of number refused written } }
+{
+    Watched {
+        watchdog: w,
+        report: Report::refused(number, written),
     }
 }
 
@@ -68,10 +78,14 @@ impl Report {
 pub fn refused(w: Watchdog, number: u8) -> Watched
     ensures { result ≡ record { watchdog = w; report = report_of number refused 0 } }
 {
-    Watched {
-        watchdog: w,
-        report: Report::refused(number),
-    }
+    refused_having_written(w, number, 0)
+}
+
+// Yields a refusal by its number, whatever that is, whose cycle counts all the same as the latest accepted.
+pub fn refused_at(w: Watchdog, cycle: Cycle, number: u8) -> Watched
+    ensures { result ≡ record { watchdog = accepted_at w cycle.0; report = report_of number refused 0 } }
+{
+    refused(w.accepted(cycle), number)
 }
 
 // Yields the watchdog after a call, which a refusal leaves as it was, and the call's answer in numbers.

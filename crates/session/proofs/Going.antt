@@ -172,12 +172,12 @@ module _ (s : State) (bytes input : List ℕ) (start i : ℕ) (old : List ℕ) (
         asked = ap (λ (q : State). asks_of q.bench) (sym (stepped e).step)
 
         -- it asks nothing of the file
-        pub reads-ended : asks_of y.bench ≡ false → Reads s bytes (between input start t.next) old y (lent room' area items) one' two' (going line') last
+        pub reads-ended : asks_of y.bench ≡ false → Reads s bytes (between input start t.next) old y (lent room' area items) one' two' [] last
         reads-ended f = record {
           next = step_of here heard;
           rest = [];
           feeds = λ whys. turned whys true e ∙ ap (λ (q : Filed). reading q []) (file-none here heard whys (asked ∙ f));
-          held = kept true e;
+          held = record { after = refl };
           leaves = record {
             said = x.leaves.said ++ after.said;
             state = ap (left y.bench y.shelf (lent room' area items) one' two') (sym (append_assoc s.answers x.leaves.said after.said)) ∙ after.state;
@@ -186,13 +186,13 @@ module _ (s : State) (bytes input : List ℕ) (start i : ℕ) (old : List ℕ) (
         }
 
         -- or something
-        pub asks-ended : asks_of y.bench ≡ true → Asks s bytes (between input start t.next) old (record { before = d; from = length page }) y (lent room' area items) one' two' (going line') last
+        pub asks-ended : asks_of y.bench ≡ true → Asks s bytes (between input start t.next) old (record { before = d; from = length page }) y (lent room' area items) one' two' [] last
         asks-ended f = record {
           was = here;
           text = heard;
           page = page;
           feeds = λ why whys. turned (why ∷ whys) true e ∙ ap (λ (z : Filed). reading z []) (file-asked here heard whys why (asked ∙ f));
-          held = kept true e;
+          held = record { after = refl };
           from = refl;
           roomy = g;
           before = record { said = x.leaves.said; state = refl; shows = x.leaves.shows };

@@ -1,6 +1,6 @@
 // Lines one after the other, while the page has room.
 
-ghost use Rattle.std.specs.Prelude.{ℕ, ◌+◌, ◌≤◌, ◌<◌, true, List, ◌≡◌, leb, length, Some, IfSome};
+ghost use Rattle.std.specs.Prelude.{ℕ, ◌+◌, ◌≤◌, ◌<◌, true, false, List, ◌≡◌, leb, length, Some, IfSome};
 ghost use Rattle.page.specs.Page.{size};
 ghost use Rattle.linewise.specs.Texts.{going};
 ghost use Rattle.bench_lines.specs.Claims.{left, longest};
@@ -100,7 +100,7 @@ fn stopped(
     }
 }
 
-// Answers the lines that end in a piece, from a place of it on, and holds what is left of it. A line that asks something of the file is the last.
+// Answers the lines that end in a piece, from a place of it on, and holds what is left of it: nothing of a line that ended. A line that asks something of the file is the last.
 pub fn lines(
     d: Desk,
     input: &[u8],
@@ -114,7 +114,7 @@ pub fn lines(
     page: &mut Page,
 ) -> Went
     requires { (Sound d.bench) × (Stable d.shelf) × (start < length input.now) }
-    ensures { ((answers bytes : List ℕ) → Held (going line.old) bytes → Goes (left d.bench d.shelf (lent room.old area.old items.old) one.old two.old answers) bytes input.now start page.old result (lent room.new area.new items.new) one.new two.new (going line.new) page.new) × (start ≤ result.next) × (result.next ≤ length input.now) × (roomy_of page.old ≡ true → start < result.next) × (Sound result.desk.bench) × (Stable result.desk.shelf) × IfSome result.asked (λ a. (Sound a.before.bench) × Stable a.before.shelf) }
+    ensures { ((answers bytes : List ℕ) → Held (going line.old) bytes → Goes (left d.bench d.shelf (lent room.old area.old items.old) one.old two.old answers) bytes input.now start page.old result (lent room.new area.new items.new) one.new two.new (going line.new) page.new) × (start ≤ result.next) × (result.next ≤ length input.now) × (roomy_of page.old ≡ true → start < result.next) × (Sound result.desk.bench) × (Stable result.desk.shelf) × IfSome result.asked (λ a. (Sound a.before.bench) × Stable a.before.shelf) × (line.old.ended ≡ false → line.new.ended ≡ false) × (start < result.next → line.new.ended ≡ false) × IfSome result.asked (λ a. leb (a.from + longest) size ≡ true) }
 {
     let mut b = d.bench;
     let mut shelf = d.shelf;
@@ -127,12 +127,14 @@ pub fn lines(
         if let Some(later) = t.later {
             let spare = shelf;
             let left = rest_of(bench, shelf, later, page, line, room, one, two);
+            line.clear();
             if asks(left.bench) {
                 return stopped(b, spare, from, left.bench, left.shelf, next);
             }
             b = left.bench;
             shelf = left.shelf;
         } else if t.ended {
+            line.clear();
             if asks(bench) {
                 let spare = shelf;
                 return stopped(b, spare, from, bench, shelf, next);

@@ -1,6 +1,7 @@
 // What a line leaves once the file has answered.
 
-ghost use Rattle.std.specs.Prelude.{ℕ, true, List, ◌≡◌, length, Err};
+ghost use Rattle.std.specs.Prelude.{ℕ, true, List, [], ◌∷◌, ◌++◌, ◌≡◌, length, Err};
+ghost use Rattle.page.specs.Page.{Puts, unreadable_of};
 ghost use Rattle.bench_lines.specs.Desk.{Sound, Stable};
 ghost use Rattle.bench_lines.specs.Named.{Lent};
 ghost use Rattle.bench_lines.specs.Steps.{State, step_of};
@@ -19,6 +20,15 @@ pub enum Fault {
     NotWritten,
 }
 
+// Puts why a line cannot be read, and a line feed.
+#[tactic(auto, using(page::proofs::Sheets::then, std::proofs::Common::take_all))]
+fn unread(page: &mut Page, nth: u64, why: Unreadable)
+    ensures { Puts page.old page.new (unreadable_of nth why ++ 10 ∷ []) }
+{
+    page.unreadable(nth, why);
+    page.byte(b'\n');
+}
+
 // What is left of a line that asked something of the file and did not get it. Where its records were not taken that stands in its answer's place. Where the file was
 // not opened nothing but the line's number has changed.
 fn failed(d: Desk, asked: Asked, fault: Fault, page: &mut Page) -> Desk
@@ -34,8 +44,7 @@ fn failed(d: Desk, asked: Asked, fault: Fault, page: &mut Page) -> Desk
         Fault::Unread(why) => {
             let mut desk = asked.before;
             desk.bench.line = d.bench.line;
-            page.unreadable(desk.bench.line, why);
-            page.byte(b'\n');
+            unread(page, desk.bench.line, why);
             desk
         }
     }

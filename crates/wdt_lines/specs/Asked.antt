@@ -1,5 +1,5 @@
 -- What a watchdog's line asks for (docs/SCRIPT.md, "The watchdog"): its command, and its words from left to right.
-use Rattle.std.specs.Prelude.{ℕ, ◌%◌, ◌^◌, ◌-◌, ◌≤◌, cond, List, eqb, length, Option, Some, None, Result, Ok, Err, ⊤}
+use Rattle.std.specs.Prelude.{ℕ, ◌%◌, ◌^◌, ◌-◌, ◌≤◌, cond, List, eqb, ltb, length, Option, Some, None, Result, Ok, Err, ⊤}
 use Rattle.figures.specs.Figures.{text}
 use Rattle.words.specs.Words.{skip_of, find_of, place_of, exactly_of, and_then}
 use Rattle.words.specs.Numbers.{between, next_of}
@@ -55,6 +55,10 @@ asked_of line at command.Serve = plain_of line at call.Serve
 asked_of line at command.Read = plain_of line at call.Read
 asked_of line at command.New = alone_of line at asked.New
 asked_of line at command.State = alone_of line at asked.State
+
+-- by the place of the name among the commands; behind them no words, and WDTCSR is read at cycle 0
+unfoldable pub placed_of : List ℕ → ℕ → ℕ → Result Asked Unreadable
+placed_of line at place = cond (ltb place 8) (asked_of line at (command_of place)) (alone_of line at (asked.Call call.Read 0 0))
 
 -- "unknown command"
 unfoldable pub named_of : List ℕ → ℕ → Option ℕ → Result Asked Unreadable

@@ -1,7 +1,7 @@
 // What a watchdog's line asks for.
 
 ghost use Rattle.std.specs.Prelude.{◌≤◌, ◌≡◌, IfOk};
-ghost use Rattle.wdt_lines.specs.Asked.{command_of, plain_of, advance_of, write_of, alone_of, asked_of, line_of, Sized};
+ghost use Rattle.wdt_lines.specs.Asked.{command_of, plain_of, advance_of, write_of, alone_of, asked_of, placed_of, line_of, Sized};
 
 use watchdog::calls::Call;
 use words::{Unreadable, decimal, exactly, find, hexadecimal, low8, place, skip};
@@ -27,7 +27,7 @@ pub enum Asked {
     Call { call: Call, cycle: u64, size: usize },
 }
 
-// The command of a place among the names; behind them it is `state`.
+// The command of a place among the names; behind them it is `state`, where `Asked::placed` has a read.
 #[tactic(auto, unfolding(crate::specs::Asked::command_of))]
 pub fn command_at(place: usize) -> Command
     ensures { result ≡ command_of place }
@@ -116,6 +116,25 @@ pub fn following(line: &[u8], at: usize, command: Command) -> Result<Asked, Unre
 }
 
 impl Asked {
+    // What a line asks for by the place of its name among the commands, from the place after it; behind them it has no words, and reads WDTCSR at cycle 0.
+    #[tactic(auto, unfolding(crate::specs::Asked::placed_of))]
+    pub fn placed(line: &[u8], at: usize, place: usize) -> Result<Asked, Unreadable>
+        ensures { (IfOk result Sized) × (result ≡ placed_of line.now at place) }
+    {
+        if place < 8 {
+            return following(line, at, command_at(place));
+        }
+        alone(
+            line,
+            at,
+            Asked::Call {
+                call: Call::Read,
+                cycle: 0,
+                size: 0,
+            },
+        )
+    }
+
     // What a line asks for, from the place after `wdt`.
     #[tactic(auto, unfolding(crate::specs::Asked::line_of, crate::specs::Asked::named_of, figures::specs::Figures::codes))]
     pub fn of(line: &[u8], at: usize) -> Result<Asked, Unreadable>

@@ -2,7 +2,7 @@
 
 ghost use Rattle.oscillator.specs.State.{Valid};
 ghost use Rattle.page.specs.Page.{Puts};
-ghost use Rattle.watchdog.specs.Outcome.{values_of, heard};
+ghost use Rattle.watchdog.specs.Outcome.{refused, values_of, heard};
 ghost use Rattle.wdt_lines.specs.Shown.{event_of, said_of, answer_of, bits_of, state_of};
 
 use display::answer::records;
@@ -35,13 +35,21 @@ fn said(page: &mut Page, answer: Answer)
     }
 }
 
+// Puts a refusal's number, whatever that is.
+#[tactic(auto, unfolding(crate::specs::Shown::said_of, figures::specs::Figures::codes))]
+pub fn refused(page: &mut Page, number: u8)
+    ensures { Puts page.old page.new (said_of number refused) }
+{
+    page.number(b"refused ", u64::from(number));
+}
+
 // Puts a call's answer, or the number of its refusal: of one that is accepted also the next event of the watchdog that it leaves, and the bytes written.
 pub fn answer(page: &mut Page, w: Watchdog, r: Result<Outcome, Refusal>, area: &[u8])
     requires { Valid (heard w r area.now).watchdog }
     ensures { Puts page.old page.new (answer_of (heard w r area.now)) }
 {
     match r {
-        Err(why) => page.number(b"refused ", u64::from(why.number())),
+        Err(why) => refused(page, why.number()),
         Ok(o) => {
             said(page, o.answer);
             event(page, o.watchdog.next());

@@ -5,7 +5,7 @@ use Rattle.bench_lines.specs.Named.{Asking, Hears, lent}
 use Rattle.bench_lines.specs.Steps.{so_far}
 use Rattle.bench_lines.proofs.Feeding.{held_more, held_on}
 use Rattle.bench_lines.proofs.Hearing.{hears_none}
-use Rattle.bench_lines.proofs.Stepping.{first_within, first_held, first_asked, turn_feeds}
+use Rattle.bench_lines.proofs.Stepping.{first_within, first_short, first_held, first_asked, turn_feeds}
 use Rattle.bench_lines.proofs.turns.turn.Goals as goal
 
 pub returns : goal.returns
@@ -28,6 +28,8 @@ returns c =
             kept = held_on c.cut-reached.new.self (so_far bytes a.input.now a.start) false (c.cut-reached.ensures.3 ∙ e) more;
             asked = tt;
           },
+      c.cut-reached.ensures.3 ∙ e,
+      tt,
     )
 
 pub returns-then-reached : goal.returns-then-reached
@@ -55,4 +57,6 @@ returns-then-reached c =
             kept = held_on text ln true (c.cut-reached.ensures.3 ∙ e) more;
             asked = subst (λ (o : Option Later). IfSome o (λ q. take q.end line ≡ take q.end ln)) (sym hears.later) (first_asked line ln more a.b l);
           },
+      c.cut-reached.ensures.3 ∙ e,
+      subst (λ (o : Option Later). IfSome o (λ q. q.end ≤ 500)) (sym hears.later) (first_short a.b line l),
     )

@@ -20,4 +20,4 @@ unfolding judged_all noted_all
 returns c =
     let none = rw c.in_default.is at c.next.ensures.steps in
     let kept = c.loop-whole.invariant in
-    check-is c.args.self.now c.args.bytes.now _ _ _ _ (c.remainder-self.ensures ∙ sym none.part ∙ kept.part) (kept.seen ∙ c.counted-self.ensures) (rw none.wholes at kept.judge) (rw none.wholes at kept.pins)
+    rw c.keep.ensures (check-is c.args.self.now c.args.bytes.now _ _ _ _ (c.remainder.ensures ∙ sym none.part ∙ kept.part) (kept.seen ∙ c.counted-self.ensures) (rw none.wholes at kept.judge) (rw none.wholes at kept.pins))

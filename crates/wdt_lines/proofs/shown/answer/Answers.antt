@@ -1,13 +1,12 @@
 -- After a refusal nothing follows.
-use Rattle.figures.specs.Figures.{codes}
 use Rattle.page.proofs.Sheets.{then, put_none}
-use Rattle.wdt_lines.specs.Shown.{said_of, unless_refused, left_by}
+use Rattle.wdt_lines.specs.Shown.{unless_refused, left_by}
 use Rattle.wdt_lines.proofs.Telling.{after_accepted}
 use Rattle.wdt_lines.proofs.shown.answer.Goals as goal
 
 pub returns-in-Err : goal.returns-in-Err
-unfolding codes said_of unless_refused
-returns-in-Err c = rw (c.in-Err.is, ← c.number.ensures, ← c.from.ensures) (then c.number-in-Err.ensures (put_none _))
+unfolding unless_refused
+returns-in-Err c = rw (c.in-Err.is, ← c.number.ensures) (then c.refused.ensures (put_none _))
 
 pub returns-in-Ok : goal.returns-in-Ok
 unfolding left_by
