@@ -22,7 +22,7 @@ use log_lines::Area;
 use page::Page;
 use record_ring::BYTES;
 use room::{FILL, ROOM, Room};
-use session::runs::lines;
+use session::runs::next_lines;
 use session::settles::settled;
 use std::fs::File;
 use std::io::{Read, Write};
@@ -50,7 +50,7 @@ fn piece<R: Files<File = File>, W: Write>(
     let mut next = 0;
     while next < input.len() {
         turned(output, page);
-        let went = lines(desk, input, next, line, room, one, two, area, items, page);
+        let went = next_lines(desk, input, next, line, room, one, two, area, items, page);
         next = went.next;
         desk = went.desk;
         if let Some(asked) = went.asked {

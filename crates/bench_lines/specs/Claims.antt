@@ -34,13 +34,13 @@ pub record Stepped (s : State) (line old new : List ℕ) (b : Bench) (shelf : Sh
   pub puts : Puts old new bytes
   pub step : left b shelf l one two (s.answers ++ bytes) ≡ step_of s line
 
--- `turn`, of a line that ended and asks nothing of the shelf
+-- `next_turn`, or `turn`, of a line that ended and asks nothing of the shelf
 abbrev pub TurnIsStep : Type 0
 TurnIsStep = (s : State) (bytes input : List ℕ) (start : ℕ) (old new room area items : List ℕ) (line : Text) (r : Turned)
     → Turns s.bench s.lent bytes input start old new room area items line r → r.ended ≡ true → r.later ≡ None
     → Stepped s (so_far bytes input start) old new r.bench s.shelf (lent room area items) s.one s.two
 
--- and then `shelved`, of one that does, with the page as `turn` leaves it
+-- and then `shelved`, of one that does, with the page as they leave it
 abbrev pub ShelvedIsStep : Type 0
 ShelvedIsStep = (s : State) (bytes input : List ℕ) (start : ℕ) (old new room area items : List ℕ) (line : Text) (r : Turned) (q : Later)
     → Turns s.bench s.lent bytes input start old new room area items line r → r.later ≡ Some q

@@ -92,7 +92,7 @@ Held line bytes = Holds [] line bytes
 abbrev pub so_far : List ℕ → List ℕ → ℕ → List ℕ
 so_far bytes input start = bytes ++ between input start (end_of input start)
 
--- a piece read from a place on is the script fed on to there: a line that ended is answered, but for what it asks of the shelf, and its bytes so far are held; the next turn goes on with nothing of it, or with those of a line that did not end
+-- a piece read from a place on is the script fed on to there: a line that ended is answered, but for what it asks of the shelf, and its bytes so far are held; `next_turn` then goes on with nothing of it, or with those of a line that did not end
 pub record Turns (b : Bench) (l : Lent) (bytes input : List ℕ) (start : ℕ) (old new room area items : List ℕ) (line : Text) (r : Turned) : Type 0 where
   pub cut : (r.next ≡ (cut_of input start).at) × (r.ended ≡ (cut_of input start).ended)
   pub feeds : (s : State) → fed step_of (reading s bytes) (between input start r.next) ≡ cond r.ended (reading (step_of s (so_far bytes input start)) []) (reading s (so_far bytes input start))

@@ -98,7 +98,7 @@ fn step(
 }
 
 // Reads a piece from a place on to the end of a line, or its own, and answers the line that ended, which is still held until the next is read.
-pub fn turn(
+pub fn next_turn(
     b: Bench,
     page: &mut Page,
     input: &[u8],
@@ -111,7 +111,7 @@ pub fn turn(
     requires { (Sound b) × (start < length input.now) }
     ensures { (Sound result.bench) × IfSome result.later (λ q. q.end ≤ length line.new.bytes) × (start < result.next) × (result.next ≤ length input.now) × ((bytes : List ℕ) → Held (going line.old) bytes → Turns b (lent room.old area.old items.old) bytes input.now start page.old page.new room.new area.new items.new line.new result) × (line.new.ended ≡ result.ended) × IfSome result.later (λ q. q.end ≤ 500) }
 {
-    let reached = line.cut(input, start);
+    let reached = line.next_cut(input, start);
     if reached.ended {
         let heard = step(b, page, line, room, area, items);
         return Turned {
@@ -127,4 +127,22 @@ pub fn turn(
         ended: false,
         later: None,
     }
+}
+
+// Reads a piece as `next_turn` does, but behind all bytes that are held, those of a line that has ended too.
+pub fn turn(
+    b: Bench,
+    page: &mut Page,
+    input: &[u8],
+    start: usize,
+    line: &mut Line,
+    room: &mut Room,
+    area: &mut Area,
+    items: &mut Items,
+) -> Turned
+    requires { (Sound b) × (start < length input.now) }
+    ensures { (Sound result.bench) × IfSome result.later (λ q. q.end ≤ length line.new.bytes) × (start < result.next) × (result.next ≤ length input.now) × ((bytes : List ℕ) → Held line.old.bytes bytes → Turns b (lent room.old area.old items.old) bytes input.now start page.old page.new room.new area.new items.new line.new result) × (line.new.ended ≡ result.ended) × IfSome result.later (λ q. q.end ≤ 500) }
+{
+    line.reopen();
+    next_turn(b, page, input, start, line, room, area, items)
 }

@@ -8,7 +8,7 @@ ghost use Rattle.config_keys.specs.Keys.{config_keys, named_of, plain_of, option
 
 use config::{Config, Wire};
 use pairs::Keyed;
-use words::{Unreadable, find, numeral, place};
+use words::{Unreadable, find, numeral_in, place};
 
 // A key's value, none where its unit is told to be absent.
 pub type Value = Option<u64>;
@@ -33,7 +33,7 @@ fn named(names: &[u8], word: &[u8]) -> Result<Value, Unreadable>
 fn plain(word: &[u8], radix: u64, most: u64) -> Result<Value, Unreadable>
     ensures { result ≡ plain_of word.now radix most }
 {
-    Ok(Some(numeral(word, radix, most)?))
+    Ok(Some(numeral_in(word, radix, most)?))
 }
 
 // A number, or `-` where the unit is absent.

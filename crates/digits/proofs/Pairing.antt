@@ -8,6 +8,11 @@ use Rattle.words.specs.Words.{and_then}
 use Rattle.words.specs.Numbers.{numeral_of}
 use Rattle.digits.specs.Spelling.{paired, spelt}
 
+-- no pair
+pub paired_none : paired [] ≡ Ok []
+unfolding paired
+paired_none = refl
+
 -- some pairs, then others
 abbrev both : Result (List ℕ) Unreadable → Result (List ℕ) Unreadable → Result (List ℕ) Unreadable
 both s t = and_then s (λ a. and_then t (λ b. Ok (a ++ b)))
@@ -37,6 +42,10 @@ module _ (ps : List (List ℕ)) (i : ℕ) (bytes : List ℕ) (h : i < length ps)
   pub paired_failed : (why : Unreadable) → numeral_of (get_or ps i []) 16 255 ≡ Err why → paired ps ≡ Err why
   unfolding paired and_then
   paired_failed why k = ap paired (sym (take-append-drop i ps)) ∙ paired-append (take i ps) (drop i ps) ∙ rw (e, drop-cons ps i [] h, k)
+
+-- all of them
+pub paired_all : (ps : List (List ℕ)) (i : ℕ) (bytes : List ℕ) → length ps ≤ i → paired (take i ps) ≡ Ok bytes → paired ps ≡ Ok bytes
+paired_all ps i bytes h e = rw (take_all i ps h) at e
 
 -- a word that has so many pairs and room for them
 pub spelt_paired : (word : List ℕ) (room : ℕ) → length word % 2 ≡ 0 → length word / 2 ≤ room → spelt word room ≡ paired (first_chunks 2 (length word / 2) word)

@@ -6,13 +6,13 @@ ghost use Rattle.words.specs.Numbers.{numeral_of};
 ghost use Rattle.digits.specs.Spelling.{spelt, bytes_of};
 ghost use Rattle.digits.specs.Storing.{stored, stored_of, Stores};
 
-use words::{Unreadable, find, numeral, skip};
+use words::{Unreadable, find, numeral_in, skip};
 
 // The byte of two digits.
 fn byte(pair: &[u8; 2]) -> Result<u8, Unreadable>
     ensures { result ≡ numeral_of pair.now 16 255 }
 {
-    let n = numeral(pair, 16, 0xff)?;
+    let n = numeral_in(pair, 16, 0xff)?;
     Ok(n as u8)
 }
 

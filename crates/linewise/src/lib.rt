@@ -2,6 +2,8 @@
 
 #![tactic(auto)]
 
+mod reopened;
+
 ghost use Rattle.std.specs.Prelude.{◌≤◌, ◌<◌, ◌≡◌, ◌∷◌, [], false, length, nat_lt};
 ghost use Rattle.linewise.specs.Lines.{Holds, Cuts};
 ghost use Rattle.linewise.specs.Texts.{fresh, going};
@@ -111,7 +113,7 @@ impl Line {
     }
 
     // Reads a piece from a place on, up to the next line feed or its end. A line that has ended is held until the next is read.
-    pub fn cut(&mut self, input: &[u8], from: usize) -> Reached
+    pub fn next_cut(&mut self, input: &[u8], from: usize) -> Reached
         requires { from < length input.now }
         ensures { (from < result.at) × (result.at ≤ length input.now) × (Cuts input.now from (going self.old) self.new.bytes result) × (self.new.ended ≡ result.ended) }
     {

@@ -10,7 +10,7 @@ use page::Page;
 use pairs::{Keyed, gathered};
 use pins::{Drive, Pin, Refusal, Resolved};
 use words::volts::{pattern, volts_of};
-use words::{Unreadable, numeral};
+use words::{Unreadable, numeral_in};
 
 // What the outside connects to the pin.
 #[derive(Clone, Copy)]
@@ -68,7 +68,7 @@ impl Keyed for Keys {
             0 => self.vcc = Some(volts_of(word)?),
             1 => self.connection = Some(connected(word)?),
             2 => self.volts = Some(volts_of(word)?),
-            _ => self.bits[key - 3] = Some(numeral(word, 10, 0xff)? as u8),
+            _ => self.bits[key - 3] = Some(numeral_in(word, 10, 0xff)? as u8),
         }
         Ok(())
     }

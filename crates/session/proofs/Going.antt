@@ -12,6 +12,7 @@ use lib.Seq.{take-add, drop-drop}
 use Rattle.words.specs.Numbers.{between}
 use Rattle.linewise.specs.Claims.{Read, reading, feed, fed}
 use Rattle.linewise.specs.Texts.{Text, going}
+use Rattle.bench_lines.specs.declared.desk.Bench.{Bench}
 use Rattle.bench_lines.specs.declared.desk.Desk.{Desk}
 use Rattle.bench_lines.specs.declared.named.Later.{Later}
 use Rattle.bench_lines.specs.declared.turns.Turned.{Turned}
@@ -118,8 +119,8 @@ module _ (s : State) (bytes input : List ℕ) (start i : ℕ) (old : List ℕ) (
     kept u e = subst (λ (v : Bool). Held (going line') (cond v [] heard)) e w.kept
 
     -- the line did not end
-    pub reads_on : t.ended ≡ false → Reads s bytes (between input start t.next) old d (lent room area items) one two (going line') new
-    reads_on e =
+    pub reads_next : t.ended ≡ false → Reads s bytes (between input start t.next) old d (lent room area items) one two (going line') new
+    reads_next e =
         let hears = subst (λ (u : Bool). Hears (cond u (first_of d.bench heard l) (saying d.bench [] l)) page new room area items (record { bench = t.bench; later = t.later })) e w.hears in
         let same : new ≡ page = hears.leaves.says.puts.after in
         record {
@@ -144,6 +145,30 @@ module _ (s : State) (bytes input : List ℕ) (start i : ℕ) (old : List ℕ) (
 
     -- what it asks of the shelf is done
     module _ (last room' one' two' : List ℕ) (y : Desk) (v : Rests t.later (record { bench = t.bench; shelf = d.shelf }) line'.bytes new last room one two room' one' two' y) where
+      -- the line did not end, and asks for nothing
+      pub reads_on : t.ended ≡ false → Reads s bytes (between input start t.next) old y (lent room' area items) one' two' line'.bytes last
+      reads_on e =
+          let hears = subst (λ (u : Bool). Hears (cond u (first_of d.bench heard l) (saying d.bench [] l)) page new room area items (record { bench = t.bench; later = t.later })) e w.hears in
+          let r = subst (λ (o : Option Later). Rests o (record { bench = t.bench; shelf = d.shelf }) line'.bytes new last room one two room' one' two' y) hears.later v in
+          let same : last ≡ page = r.1 ∙ hears.leaves.says.puts.after in
+          record {
+            next = here;
+            rest = heard;
+            feeds = λ whys. turned whys false e;
+            held = w.held;
+            leaves = record {
+              said = x.leaves.said;
+              state =
+                  ap (λ (q : Desk). left q.bench q.shelf (lent room' area items) one' two' (s.answers ++ x.leaves.said)) r.0
+                  ∙ ap (λ (q : List ℕ). left t.bench d.shelf (lent q area items) one' two' (s.answers ++ x.leaves.said)) r.2
+                  ∙ ap (λ (q : List ℕ). left t.bench d.shelf (lent room area items) q two' (s.answers ++ x.leaves.said)) r.3
+                  ∙ ap (λ (q : List ℕ). left t.bench d.shelf (lent room area items) one q (s.answers ++ x.leaves.said)) r.4
+                  ∙ ap (λ (b : Bench). left b d.shelf (lent room area items) one two (s.answers ++ x.leaves.said)) hears.leaves.says.bench
+                  ∙ ap (λ (m : Lent). left d.bench d.shelf m one two (s.answers ++ x.leaves.said)) hears.leaves.lent;
+              shows = same ∙ x.leaves.shows;
+            };
+          }
+
       -- the line ended
       stepped : t.ended ≡ true → Stepped here heard page last y.bench y.shelf (lent room' area items) one' two'
       stepped e = go t.later refl v

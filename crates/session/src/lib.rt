@@ -4,3 +4,5 @@
 
 pub mod runs;
 pub mod settles;
+#[cfg(test)]
+mod tests;

@@ -13,7 +13,7 @@ ghost use Rattle.session.specs.Runs.{roomy_of, Rests, Goes};
 use bench_lines::desk::{Bench, Desk, Shelf};
 use bench_lines::named::Later;
 use bench_lines::shelved::shelved;
-use bench_lines::turns::turn;
+use bench_lines::turns::next_turn;
 use linewise::Line;
 use list_lines::made::Items;
 use log_lines::Area;
@@ -101,7 +101,7 @@ fn stopped(
 }
 
 // Answers the lines that end in a piece, from a place of it on, and holds what is left of it: nothing of a line that ended. A line that asks something of the file is the last.
-pub fn lines(
+pub fn next_lines(
     d: Desk,
     input: &[u8],
     start: usize,
@@ -121,7 +121,7 @@ pub fn lines(
     let mut next = start;
     while (next < input.len()) & roomy(page) {
         let from = page.len();
-        let t = turn(b, page, input, next, line, room, area, items);
+        let t = next_turn(b, page, input, next, line, room, area, items);
         next = t.next;
         let bench = t.bench;
         if let Some(later) = t.later {
@@ -147,4 +147,24 @@ pub fn lines(
         next,
         asked: None,
     }
+}
+
+// Answers the lines that end in a piece as `next_lines` does, but the first of them behind all bytes that are held, those of a line that has ended too.
+pub fn lines(
+    d: Desk,
+    input: &[u8],
+    start: usize,
+    line: &mut Line,
+    room: &mut Room,
+    one: &mut Room,
+    two: &mut Room,
+    area: &mut Area,
+    items: &mut Items,
+    page: &mut Page,
+) -> Went
+    requires { (Sound d.bench) × (Stable d.shelf) × (start < length input.now) }
+    ensures { ((answers bytes : List ℕ) → Held line.old.bytes bytes → Goes (left d.bench d.shelf (lent room.old area.old items.old) one.old two.old answers) bytes input.now start page.old result (lent room.new area.new items.new) one.new two.new line.new.bytes page.new) × (start ≤ result.next) × (result.next ≤ length input.now) × (roomy_of page.old ≡ true → start < result.next) × (Sound result.desk.bench) × (Stable result.desk.shelf) × IfSome result.asked (λ a. (Sound a.before.bench) × Stable a.before.shelf) × (line.new.ended ≡ false) × IfSome result.asked (λ a. leb (a.from + longest) size ≡ true) }
+{
+    line.reopen();
+    next_lines(d, input, start, line, room, one, two, area, items, page)
 }

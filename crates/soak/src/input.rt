@@ -1,6 +1,6 @@
 // A file that is read chunk by chunk.
 
-ghost use Rattle.std.specs.Prelude.{◌+◌, ◌<◌, ◌^◌, ◌≡◌, length, IfSome, unwrap_or};
+ghost use Rattle.std.specs.Prelude.{◌+◌, ◌<◌, ◌^◌, ◌≡◌, length, IfSome, IfOk, IfErr, unwrap_or};
 ghost use Rattle.soak.specs.Input.{missing, opened, more, failed, ended, after_read, Reads};
 ghost use Rattle.soak.specs.Passes.{second_refusal};
 
@@ -120,6 +120,13 @@ impl Reader {
         })
     }
 
+    // Opens a file, or yields how one stands that could not be opened.
+    pub fn try_open<R: Files<File = File>>(rt: &R, path: &[u8]) -> Result<Reader, Input>
+        ensures { IfOk result (λ r. r.input ≡ opened) × IfErr result (λ i. i ≡ missing) }
+    {
+        Reader::open(rt, path).ok_or(Input::missing())
+    }
+
     // Reads the next chunk into an area; yields how many bytes it has, unless there is no more to read.
     pub fn read(&mut self, area: &mut [u8]) -> Option<usize>
         requires { self.old.input.bytes + length area.old < 2 ^ 64 }
@@ -140,5 +147,22 @@ impl Reader {
         let Reader { file, input } = self;
         drop(file);
         input
+    }
+}
+
+#[cfg(test)]
+mod tests {
+    use super::*;
+
+    #[test]
+    fn tells_of_a_file_that_could_not_be_opened(rt: HostRuntime) {
+        match Reader::try_open(&rt, b"no such file") {
+            Ok(file) => assert!(rt; file.close().failed()),
+            Err(input) => assert!(rt; input.failed() & !input.more() & !input.ended()),
+        }
+        match Reader::try_open(&rt, b".") {
+            Ok(file) => assert!(rt; file.close().more()),
+            Err(input) => assert!(rt; input.more()),
+        }
     }
 }

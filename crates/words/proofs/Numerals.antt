@@ -1,5 +1,5 @@
 -- Laws of digits and of the numbers that they make.
-use Rattle.std.proofs.Common.{◌≡◌, ℕ, ◌+◌, ◌-◌, ◌*◌, ◌<◌, ◌≤◌, Bool, true, false, cond, ◌&&◌, ltb, leb, List, [], ◌∷◌, length, get_or, take, drop, sym, refl, ap, ◌∙◌, le-mul_of_pos_right, add-one, arith, take-append-drop, take-suc, le-leb, leb-false, leb-true, ltb-true, Option, Some, None, is_some, unwrap_or, ok_or, Result, Ok, Err, IfOk}
+use Rattle.std.proofs.Common.{◌≡◌, ℕ, ◌+◌, ◌-◌, ◌*◌, ◌<◌, ◌≤◌, Bool, true, false, cond, ◌&&◌, ltb, leb, List, [], ◌∷◌, length, get_or, take, drop, sym, refl, ap, ◌∙◌, le-mul_of_pos_right, add-one, arith, take-append-drop, take-suc, le-leb, leb-false, leb-true, ltb-true, lt-ltb, Option, Some, None, is_some, unwrap_or, ok_or, Result, Ok, Err, IfOk}
 use mathlib.Core.Bool.{false≢true}
 use mathlib.Core.List.{foldl, foldl-append}
 use borrow.Author.Tests.{lt-leb}
@@ -7,7 +7,7 @@ use Rattle.words.specs.declared.Unreadable.{Unreadable}
 use Rattle.words.specs.declared.Unreadable.TheVariants as unreadable
 use Rattle.words.specs.declared.Taken.{Taken}
 use Rattle.words.specs.Words.{find_of, skip_of, and_then}
-use Rattle.words.specs.Numbers.{among, below, digit_of, all_digits, extended, well_formed, limited, longer_of, numeral_of, between, next_of}
+use Rattle.words.specs.Numbers.{among, below, digit_of, all_digits, extended, well_formed, limited, longer_of, numeral_of, digits_numeral_of, between, next_of}
 
 -- ---- a loop over a line
 
@@ -103,6 +103,88 @@ pub numeral_digits : (l : List ℕ) (radix most : ℕ) → 0 < length l → all_
 unfolding numeral_of
 numeral_digits l radix most h t = rw (formed radix l h, t)
 
+-- ---- a word of digits
+
+-- a test of every byte, and a wider one
+fold-wider : (p q : ℕ → Bool) → ((b : ℕ) → p b ≡ true → q b ≡ true) → (l : List ℕ) (a : Bool) → foldl (λ (ok : Bool) (b : ℕ). ok && p b) a l ≡ true → foldl (λ (ok : Bool) (b : ℕ). ok && q b) a l ≡ true
+fold-wider p q w [] a h = h
+fold-wider p q w (b ∷ bs) false h = absurd (false≢true (sym (fold-failed p bs) ∙ h))
+fold-wider p q w (b ∷ bs) true h = go (p b) refl h (fold-wider p q w bs true)
+  where
+    go : (t : Bool) → p b ≡ t → foldl (λ (ok : Bool) (c : ℕ). ok && p c) t bs ≡ true
+        → (foldl (λ (ok : Bool) (c : ℕ). ok && p c) true bs ≡ true → foldl (λ (ok : Bool) (c : ℕ). ok && q c) true bs ≡ true)
+        → foldl (λ (ok : Bool) (c : ℕ). ok && q c) (q b) bs ≡ true
+    go true e k rest = rw (w b e) (rest k)
+    go false e k rest = absurd (false≢true (sym (fold-failed p bs) ∙ k))
+
+below-wider : (radix n : ℕ) → radix ≤ 16 → is_some (below radix n) ≡ true → is_some (below 16 n) ≡ true
+below-wider radix n h k = go (ltb n radix) refl k
+  where
+    go : (t : Bool) → ltb n radix ≡ t → is_some (cond t (Some n) None) ≡ true → is_some (below 16 n) ≡ true
+    go true e q = rw (lt-ltb n 16 (omega (arith, h, ltb-true n radix e)))
+    go false e q = absurd (false≢true q)
+
+-- a digit of a radix is a hexadecimal one
+digit-wider : (radix : ℕ) → radix ≤ 16 → (b : ℕ) → is_some (digit_of radix b) ≡ true → is_some (digit_of 16 b) ≡ true
+unfolding digit_of
+digit-wider radix h b k = go (among 48 57 b) (among 65 70 b) (among 97 102 b) k
+  where
+    worth : Bool → Bool → Bool → ℕ → Option ℕ
+    worth t u v r = cond t (below r (b - 48)) (cond u (below r (b - 65 + 10)) (cond v (below r (b - 97 + 10)) (below r 16)))
+
+    go : (t u v : Bool) → is_some (worth t u v radix) ≡ true → is_some (worth t u v 16) ≡ true
+    go true u v q = below-wider radix (b - 48) h q
+    go false true v q = below-wider radix (b - 65 + 10) h q
+    go false false true q = below-wider radix (b - 97 + 10) h q
+    go false false false q = below-wider radix 16 h q
+
+digits-wider : (radix : ℕ) (l : List ℕ) → radix ≤ 16 → all_digits radix l ≡ true → all_digits 16 l ≡ true
+unfolding all_digits
+digits-wider radix l h t = fold-wider (λ (b : ℕ). is_some (digit_of radix b)) (λ (b : ℕ). is_some (digit_of 16 b)) (digit-wider radix h) l true t
+
+-- a word with a byte that is no hexadecimal digit
+pub numeral_undigits : (l : List ℕ) (radix most : ℕ) → radix ≤ 16 → all_digits 16 l ≡ false → numeral_of l radix most ≡ Err unreadable.Malformed
+numeral_undigits [] radix most h e = numeral_empty [] radix most refl
+numeral_undigits (b ∷ bs) radix most h e = numeral_malformed (b ∷ bs) radix most (omega arith) (go (all_digits radix (b ∷ bs)) refl)
+  where
+    go : (t : Bool) → all_digits radix (b ∷ bs) ≡ t → t ≡ false
+    go true k = absurd (false≢true (sym e ∙ digits-wider radix (b ∷ bs) h k))
+    go false k = refl
+
+-- in a radix up to 16 every number is one of digits
+pub digits_numeral_small : (l : List ℕ) (radix most : ℕ) → radix ≤ 16 → digits_numeral_of l radix most ≡ numeral_of l radix most
+unfolding digits_numeral_of
+digits_numeral_small l radix most h = go (all_digits 16 l) refl
+  where
+    go : (t : Bool) → all_digits 16 l ≡ t → cond t (numeral_of l radix most) (Err unreadable.Malformed) ≡ numeral_of l radix most
+    go true e = refl
+    go false e = sym (numeral_undigits l radix most h e)
+
+-- an empty word
+pub digits_numeral_empty : (l : List ℕ) (radix most : ℕ) → length l ≡ 0 → digits_numeral_of l radix most ≡ Err unreadable.Malformed
+unfolding digits_numeral_of
+digits_numeral_empty l radix most h = go (all_digits 16 l)
+  where
+    go : (t : Bool) → cond t (numeral_of l radix most) (Err unreadable.Malformed) ≡ Err unreadable.Malformed
+    go true = numeral_empty l radix most h
+    go false = refl
+
+-- a word with a byte that is no digit of the radix
+pub digits_numeral_malformed : (l : List ℕ) (radix most : ℕ) → 0 < length l → all_digits 16 l && all_digits radix l ≡ false → digits_numeral_of l radix most ≡ Err unreadable.Malformed
+unfolding digits_numeral_of
+digits_numeral_malformed l radix most h e = go (all_digits 16 l) e
+  where
+    go : (t : Bool) → t && all_digits radix l ≡ false → cond t (numeral_of l radix most) (Err unreadable.Malformed) ≡ Err unreadable.Malformed
+    go true k = numeral_malformed l radix most h k
+    go false k = refl
+
+-- ---- how large it is
+
+-- a word of digits of the radix
+pub digits_numeral_digits : (l : List ℕ) (radix most : ℕ) → 0 < length l → all_digits 16 l ≡ true → all_digits radix l ≡ true → digits_numeral_of l radix most ≡ ok_or (limited most (extended radix 0 l)) unreadable.TooLarge
+unfolding digits_numeral_of
+digits_numeral_digits l radix most h d t = rw d (numeral_digits l radix most h t)
+
 -- what can be read is at most the most
 pub numeral_most : (l : List ℕ) (radix most : ℕ) → IfOk (numeral_of l radix most) (λ n. n ≤ most)
 unfolding numeral_of limited
@@ -113,6 +195,15 @@ numeral_most l radix most = go (well_formed radix l) (leb (extended radix 0 l) m
     go true true e = leb-true (extended radix 0 l) most e
     go true false e = tt
     go false u e = tt
+
+-- and so is what digits alone mean
+pub digits_numeral_most : (l : List ℕ) (radix most : ℕ) → IfOk (digits_numeral_of l radix most) (λ n. n ≤ most)
+unfolding digits_numeral_of
+digits_numeral_most l radix most = go (all_digits 16 l)
+  where
+    go : (t : Bool) → IfOk (cond t (numeral_of l radix most) (Err unreadable.Malformed)) (λ n. n ≤ most)
+    go true = numeral_most l radix most
+    go false = tt
 
 -- ---- the next number of a line
 

@@ -43,6 +43,10 @@ longer_of value d radix most = option_and_then (λ n. limited most (n * radix + 
 unfoldable pub numeral_of : List ℕ → ℕ → ℕ → Result ℕ Unreadable
 numeral_of word radix most = cond (well_formed radix word) (ok_or (limited most (extended radix 0 word)) unreadable.TooLarge) (Err unreadable.Malformed)
 
+-- a word of digits, 0 to 9 and a to f in either case, as a number; in a radix above 16 too another byte makes it malformed
+unfoldable pub digits_numeral_of : List ℕ → ℕ → ℕ → Result ℕ Unreadable
+digits_numeral_of word radix most = cond (all_digits 16 word) (numeral_of word radix most) (Err unreadable.Malformed)
+
 -- the word between two places
 abbrev pub between : List ℕ → ℕ → ℕ → List ℕ
 between text start end = take (end - start) (drop start text)

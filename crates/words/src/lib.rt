@@ -7,7 +7,7 @@ pub mod volts;
 ghost use Rattle.std.specs.Prelude.{◌≡◌, ◌+◌, ◌*◌, ◌%◌, ◌<◌, ◌≤◌, min, length, drop, IfOk, IfSome};
 ghost use Rattle.words.specs.Words.{sought, first_from, find_of, skip_of, words, exactly_of, place_of, split_of};
 ghost use Rattle.words.specs.Reasons.{numbered};
-ghost use Rattle.words.specs.Numbers.{digit_of, longer_of, numeral_of, next_of};
+ghost use Rattle.words.specs.Numbers.{digit_of, all_digits, longer_of, numeral_of, digits_numeral_of, next_of};
 
 // Why a line cannot be read.
 #[derive(Clone, Copy, PartialEq, Eq)]
@@ -169,9 +169,9 @@ fn longer(value: Option<u64>, d: u64, radix: u64, most: u64) -> Option<u64>
     if longer <= most { Some(longer) } else { None }
 }
 
-// A word as a number in a radix, at most as large as told; one that is malformed is so even where it is too large.
+// A word as a number in a radix, at most as large as told; one that is malformed is so even where it is too large. In a radix above 16 a byte that is no digit has the value 16.
 #[tactic(auto, using(crate::proofs::Numerals::numeral_empty, crate::proofs::Numerals::numeral_malformed, crate::proofs::Numerals::longer_limited, crate::proofs::Numerals::extended_more, crate::proofs::Numerals::digits_more, crate::proofs::Numerals::digits_failed, crate::proofs::Numerals::digit_less))]
-pub fn numeral(word: &[u8], radix: u64, most: u64) -> Result<u64, Unreadable>
+pub fn numeral_in(word: &[u8], radix: u64, most: u64) -> Result<u64, Unreadable>
     ensures { IfOk result (λ n. n ≤ most) × (result ≡ numeral_of word.now radix most) }
 {
     if word.is_empty() {
@@ -187,6 +187,30 @@ pub fn numeral(word: &[u8], radix: u64, most: u64) -> Result<u64, Unreadable>
     value.ok_or(Unreadable::TooLarge)
 }
 
+// Is every byte a hexadecimal digit.
+#[tactic(auto, using(crate::proofs::Numerals::digits_more, crate::proofs::Numerals::digits_failed))]
+fn is_digits(word: &[u8]) -> bool
+    ensures { result ≡ all_digits 16 word.now }
+{
+    for b in word {
+        if digit(*b, 16).is_none() {
+            return false;
+        }
+    }
+    true
+}
+
+// A word of digits as a number in a radix, as `numeral_in` reads it; in a radix above 16 too a byte that is no digit makes it malformed.
+#[tactic(auto, using(crate::proofs::Numerals::digits_numeral_small, crate::proofs::Numerals::numeral_undigits), unfolding(crate::specs::Numbers::digits_numeral_of))]
+pub fn numeral(word: &[u8], radix: u64, most: u64) -> Result<u64, Unreadable>
+    ensures { IfOk result (λ n. n ≤ most) × (result ≡ digits_numeral_of word.now radix most) × (radix ≤ 16 → result ≡ numeral_of word.now radix most) }
+{
+    if !is_digits(word) {
+        return Err(Unreadable::Malformed);
+    }
+    numeral_in(word, radix, most)
+}
+
 // The next word as a number.
 #[tactic(auto, unfolding(crate::specs::Numbers::next_of, crate::specs::Words::and_then))]
 fn next(text: &[u8], at: usize, radix: u64, most: u64) -> Result<Taken, Unreadable>
@@ -194,7 +218,7 @@ fn next(text: &[u8], at: usize, radix: u64, most: u64) -> Result<Taken, Unreadab
 {
     let start = skip(text, at);
     let end = find(text, start, b' ');
-    let value = numeral(&text[start..end], radix, most)?;
+    let value = numeral_in(&text[start..end], radix, most)?;
     Ok(Taken { value, end })
 }
 
@@ -224,4 +248,19 @@ pub fn low16(n: u64) -> u16
     ensures { result ≡ n % 65536 }
 {
     (n % 65536) as u16
+}
+
+#[cfg(test)]
+mod tests {
+    use super::*;
+
+    #[test]
+    fn reads_digits_alone_in_any_radix(rt: HostRuntime) {
+        assert!(rt; numeral(b"ff", 16, 255) == Ok(255));
+        assert!(rt; numeral(b"1F", 20, 1000) == Ok(35));
+        assert!(rt; numeral(b"1g", 17, 1000) == Err(Unreadable::Malformed));
+        assert!(rt; numeral_in(b"1g", 17, 1000) == Ok(33));
+        assert!(rt; numeral(b"100", 10, 99) == Err(Unreadable::TooLarge));
+        assert!(rt; numeral(b"", 10, 99) == Err(Unreadable::Malformed));
+    }
 }

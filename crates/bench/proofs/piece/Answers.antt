@@ -12,7 +12,7 @@ pub loop-next-preserved-in-Some : goal.loop-next-preserved-in-Some
 loop-next-preserved-in-Some g c =
     let a = c.args in
     let l = c.loop-next in
-    let w = c.lines-went in
+    let w = c.next_lines-went in
     let f = c.settled-desk in (
       f.ensures.0,
       f.ensures.1,
@@ -31,7 +31,7 @@ pub loop-next-preserved : goal.loop-next-preserved
 loop-next-preserved g c =
     let a = c.args in
     let l = c.loop-next in
-    let w = c.lines-went in (
+    let w = c.next_lines-went in (
       w.ensures.4,
       w.ensures.5,
       w.ensures.2,

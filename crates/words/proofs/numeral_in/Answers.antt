@@ -1,8 +1,8 @@
--- `words::numeral` meets its contract. The loop's invariant: the bytes passed are digits, and the number is what they make, or too large.
+-- `words::numeral_in` meets its contract. The loop's invariant: the bytes passed are digits, and the number is what they make, or too large.
 use Rattle.std.proofs.Common.{◌≡◌, sym, refl, ◌∙◌, arith, take_all, le-leb, rules}
 use Rattle.words.proofs.Numerals.{numeral_digits, numeral_most}
 use Rattle.words.specs.Numbers.{all_digits, extended, limited, numeral_of}
-use Rattle.words.proofs.numeral.Goals as goal
+use Rattle.words.proofs.numeral_in.Goals as goal
 
 pub loop-b-init : goal.loop-b-init
 unfolding all_digits extended limited

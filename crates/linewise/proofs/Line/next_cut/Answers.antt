@@ -3,7 +3,7 @@ use native.Mathlib.Omega.{arith}
 use mathlib.Core.Path.{refl, ap, ◌∙◌}
 use Rattle.linewise.specs.Texts.{Text, going}
 use Rattle.linewise.proofs.Holding.{cut_ended, cut_short}
-use Rattle.linewise.proofs.Line.cut.Goals as goal
+use Rattle.linewise.proofs.Line.next_cut.Goals as goal
 
 pub returns-then-end-input : goal.returns-then-end-input
 returns-then-end-input c =

@@ -4,8 +4,8 @@ use native.Mathlib.Omega.{arith}
 use mathlib.Core.Logic.{inl, inr}
 use mathlib.Core.Path.{refl, sym, ◌∙◌}
 use lib.ListN.{length}
-use Rattle.session.proofs.Going.{goes_on, reads_none, rests-none, rests-some, reads_on, asked-ended, reads-ended, asks-ended}
-use Rattle.session.proofs.runs.lines.Goals as goal
+use Rattle.session.proofs.Going.{goes_on, reads_none, rests-none, rests-some, reads_next, asked-ended, reads-ended, asks-ended}
+use Rattle.session.proofs.runs.next_lines.Goals as goal
 
 pub loop-next-init : goal.loop-next-init
 loop-next-init c = (
@@ -23,7 +23,7 @@ pub returns-then-asks : goal.returns-then-asks
 returns-then-asks c =
     let a = c.args in
     let l = c.loop-next in
-    let turn = c.turn-t in
+    let turn = c.next_turn-t in
     let t = turn.result in
     let g = goes_on l.next (length a.input.now) l.page c.roomy.result c.roomy.ensures c.loop-next-test.true in
     rw c.stopped.ensures (
@@ -48,7 +48,7 @@ pub loop-next-preserved-in-Some : goal.loop-next-preserved-in-Some
 loop-next-preserved-in-Some c =
     let a = c.args in
     let l = c.loop-next in
-    let turn = c.turn-t in
+    let turn = c.next_turn-t in
     let t = turn.result in
     let g = goes_on l.next (length a.input.now) l.page c.roomy.result c.roomy.ensures c.loop-next-test.true in (
       c.rest_of-left.ensures.0,
@@ -70,7 +70,7 @@ pub returns-then-asks-2 : goal.returns-then-asks-2
 returns-then-asks-2 c =
     let a = c.args in
     let l = c.loop-next in
-    let turn = c.turn-t in
+    let turn = c.next_turn-t in
     let t = turn.result in
     let g = goes_on l.next (length a.input.now) l.page c.roomy.result c.roomy.ensures c.loop-next-test.true in
     rw c.stopped-then-asks-2.ensures (
@@ -94,7 +94,7 @@ pub loop-next-preserved-then-t : goal.loop-next-preserved-then-t
 loop-next-preserved-then-t c =
     let a = c.args in
     let l = c.loop-next in
-    let turn = c.turn-t in
+    let turn = c.next_turn-t in
     let t = turn.result in
     let g = goes_on l.next (length a.input.now) l.page c.roomy.result c.roomy.ensures c.loop-next-test.true in (
       turn.ensures.0,
@@ -115,7 +115,7 @@ pub loop-next-preserved : goal.loop-next-preserved
 loop-next-preserved c =
     let a = c.args in
     let l = c.loop-next in
-    let turn = c.turn-t in
+    let turn = c.next_turn-t in
     let t = turn.result in
     let g = goes_on l.next (length a.input.now) l.page c.roomy.result c.roomy.ensures c.loop-next-test.true in (
       l.invariant.0,
@@ -127,7 +127,7 @@ loop-next-preserved c =
           let x = l.invariant.5 answers bytes h in
           let w = turn.ensures.4 x.rest x.held in
           let k : l.next ≤ t.next = omega (arith, turn.ensures.2) in
-          reads_on _ bytes a.input.now a.start l.next _ _ _ _ _ _ _ x l.invariant.2 g.0 _ _ _ _ _ t w k c.if-t.false,
+          reads_next _ bytes a.input.now a.start l.next _ _ _ _ _ _ _ x l.invariant.2 g.0 _ _ _ _ _ t w k c.if-t.false,
       λ h. turn.ensures.5 ∙ c.if-t.false,
       λ h. turn.ensures.5 ∙ c.if-t.false,
     )
