@@ -178,12 +178,12 @@ digits_numeral_malformed l radix most h e = go (all_digits 16 l) e
     go true k = numeral_malformed l radix most h k
     go false k = refl
 
--- ---- how large it is
-
 -- a word of digits of the radix
 pub digits_numeral_digits : (l : List ℕ) (radix most : ℕ) → 0 < length l → all_digits 16 l ≡ true → all_digits radix l ≡ true → digits_numeral_of l radix most ≡ ok_or (limited most (extended radix 0 l)) unreadable.TooLarge
 unfolding digits_numeral_of
 digits_numeral_digits l radix most h d t = rw d (numeral_digits l radix most h t)
+
+-- ---- how large it is
 
 -- what can be read is at most the most
 pub numeral_most : (l : List ℕ) (radix most : ℕ) → IfOk (numeral_of l radix most) (λ n. n ≤ most)
@@ -196,7 +196,7 @@ numeral_most l radix most = go (well_formed radix l) (leb (extended radix 0 l) m
     go true false e = tt
     go false u e = tt
 
--- and so is what digits alone mean
+-- so is what can be read of a word of digits alone
 pub digits_numeral_most : (l : List ℕ) (radix most : ℕ) → IfOk (digits_numeral_of l radix most) (λ n. n ≤ most)
 unfolding digits_numeral_of
 digits_numeral_most l radix most = go (all_digits 16 l)
