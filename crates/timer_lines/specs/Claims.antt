@@ -15,6 +15,6 @@ Short = (t : Option Timer) (nth : ℕ) (line : List ℕ) (at : ℕ) (command : C
 abbrev pub ShortConfig : Type 0
 ShortConfig = (t : Option Timer) (nth : ℕ) (line : List ℕ) (at : ℕ) (preset : Bool) → length (config_line t nth line at preset).bytes ≤ 49
 
--- a line's first word names one of the commands, and never the call beyond the names
+-- a line's first word never names the call beyond the names
 abbrev pub NamedAlone : Type 0
 NamedAlone = (word : List ℕ) → named_of word ≡ Some (command.Call name.Beyond) → ⊥
